@@ -1,0 +1,4 @@
+pub mod DrawingIn
+pub mod Sizes
+pub mod Newton
+pub mod NearestWhole

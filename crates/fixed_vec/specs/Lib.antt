@@ -1,0 +1,5 @@
+pub mod Held
+pub mod Vector
+pub mod HalfPlane
+pub mod Point
+pub mod Meeting
