@@ -1,9 +1,9 @@
-use Rattle.std.proofs.Common.{◌≡◌, ◌⊎◌, inl, inr, ⊎_elim, ℕ, zero, suc, ◌*◌, ◌<◌, ◌≤◌, Bool, true, false, cond, T, leb, leb→le, not, [], ◌∷◌, subst, sym, refl, arith, ℤ, pos, negsuc, neg_ℤ, ◌+ℤ◌, ◌*ℤ◌, ◌≤ℤ◌, ◌<ℤ◌, le_antisymm}
+use Rattle.std.proofs.Common.{◌≡◌, ◌⊎◌, inl, inr, ⊎_elim, ℕ, zero, suc, ◌+◌, ◌-◌, ◌*◌, ◌<◌, ◌≤◌, Bool, true, false, cond, T, leb, leb→le, not, [], ◌∷◌, subst, sym, refl, arith, ℤ, pos, negsuc, neg_ℤ, ◌+ℤ◌, ◌*ℤ◌, ◌≤ℤ◌, ◌<ℤ◌, le_antisymm, mul-le-mul}
 use Rattle.std.proofs.lemmas.Int.{ints}
 use Rattle.std.proofs.lemmas.Bool.{cases_lt}
 use lib.Dec.{nleb→lt}
 use Rattle.exact_algebra.proofs.Ring.{equal, quotes}
-use Rattle.exact_algebra.specs.Numbers.{floor, ceil, first_root, ceil_root}
+use Rattle.exact_algebra.specs.Numbers.{floor, ceil, first_root, ceil_root, floor_root}
 
 -- floor n d is the one whole number q with q d ≤ n < q d + d
 pub floor_le : (n d : ℤ) → pos 0 <ℤ d → (floor n d *ℤ d) ≤ℤ n
@@ -59,3 +59,25 @@ pub ceil_root_is : (m r : ℕ) → m ≤ r * r → ((j : ℕ) → j < r → j * 
 ceil_root_is m r h k = le_antisymm
     (⊎_elim (λ p. absurd (omega (arith, ceil_root_first m r p))) (λ p. p) (cases_lt r (ceil_root m)))
     (⊎_elim (λ p. absurd (omega (arith, k (ceil_root m) p, ceil_root_reaches m))) (λ p. p) (cases_lt (ceil_root m) r))
+
+-- ---- the root rounded down
+
+pub floor_root_le : (m : ℕ) → floor_root m * floor_root m ≤ m
+floor_root_le m = by (ceil_root (m + 1)) (ceil_root_reaches (m + 1)) (ceil_root_first (m + 1))
+  where
+    by : (r : ℕ) → m + 1 ≤ r * r → ((j : ℕ) → j < r → j * j < m + 1) → (r - 1) * (r - 1) ≤ m
+    by zero h k = absurd (omega (arith, h))
+    by (suc r) h k = let e : suc r - 1 ≡ r = omega arith in rw e (omega (arith, k r (omega arith)))
+
+pub floor_root_gt : (m : ℕ) → m < (floor_root m + 1) * (floor_root m + 1)
+floor_root_gt m = by (ceil_root (m + 1)) (ceil_root_reaches (m + 1))
+  where
+    by : (r : ℕ) → m + 1 ≤ r * r → m < (r - 1 + 1) * (r - 1 + 1)
+    by zero h = absurd (omega (arith, h))
+    by (suc r) h = let e : suc r - 1 + 1 ≡ suc r = omega arith in rw e (omega (arith, h))
+
+-- the root, known by what is told of it
+pub floor_root_is : (m r : ℕ) → r * r ≤ m → m < (r + 1) * (r + 1) → floor_root m ≡ r
+floor_root_is m r h k =
+    let e : ceil_root (m + 1) ≡ r + 1 = ceil_root_is (m + 1) (r + 1) (omega (arith, k)) (λ j l. let p : j ≤ r = omega arith in omega (arith, mul-le-mul p p)) in
+    omega (arith, e)

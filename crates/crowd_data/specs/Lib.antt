@@ -1,0 +1,10 @@
+pub mod Limits
+pub mod Scenario
+pub mod RingPlanes
+pub mod Walls
+pub mod Pairs
+pub mod Neighbours
+pub mod Advice
+pub mod Run
+pub mod Safety
+pub mod Headings
