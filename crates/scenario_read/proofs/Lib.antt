@@ -1,0 +1,4 @@
+pub mod RecordSteps
+pub mod Boms
+mod FieldLimits
+mod PlainRecords

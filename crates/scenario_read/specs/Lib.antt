@@ -1,0 +1,6 @@
+pub mod Records
+pub mod Numbers
+pub mod Fields
+pub mod Plain
+pub mod Progress
+pub mod Held
