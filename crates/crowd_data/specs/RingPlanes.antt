@@ -46,5 +46,5 @@ ring_planes_of radius [] speed = []
 ring_planes_of radius (first ∷ rest) speed = edge_planes radius (speed - 1) first (first ∷ rest)
 
 -- the speed polygon of a greatest speed
-abbrev pub ring_planes : ℕ → List Plane
+unfoldable pub ring_planes : ℕ → List Plane
 ring_planes speed = ring_planes_of (pos 65) ring_points speed

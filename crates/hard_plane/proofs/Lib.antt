@@ -1,0 +1,4 @@
+pub mod Sizes
+pub mod RingPoints
+pub mod EdgePlane
+pub mod Examples

@@ -1,0 +1,5 @@
+mod TextBehind
+mod AloneMoves
+mod AloneRuns
+mod Outputs
+mod PolygonTests
