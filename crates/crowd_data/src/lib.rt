@@ -19,3 +19,6 @@ pub use pair::{Disc, Place, Region};
 pub use post::{Goal, Post, SCRIPT, ScriptPost};
 pub use scenario::Scenario;
 pub use segment::Segment;
+
+#[cfg(test)]
+mod tests;

@@ -15,3 +15,6 @@ pub use point::{Point, side};
 pub use quotients::{div_down, div_up};
 pub use roots::{ceil_root, floor_root};
 pub use vector::{V2, cross, dot, minus, perp, plus};
+
+#[cfg(test)]
+mod tests;

@@ -7,3 +7,6 @@ mod transcript;
 
 pub use line::Line;
 pub use transcript::{write_end, write_frame, write_scenario};
+
+#[cfg(test)]
+mod tests;

@@ -10,3 +10,6 @@ mod words;
 
 pub use commands::offline;
 pub use top_call::orca;
+
+#[cfg(test)]
+mod tests;

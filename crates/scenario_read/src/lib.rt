@@ -6,3 +6,6 @@ mod plain;
 mod progress;
 
 pub use plain::{PlainFault, read_plain};
+
+#[cfg(test)]
+mod tests;

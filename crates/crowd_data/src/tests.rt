@@ -1,0 +1,47 @@
+// Scenarios that stand for themselves, and their first frames.
+use crate::{Agent, Body, Goal, Mark, Scenario, first_frame};
+use fixed_vec::{List, V2};
+use std::test::Fail;
+
+#[test]
+fn first_frame_has_the_agents_as_they_are(rt: HostRuntime) -> Result<(), Fail> {
+    let mut agents = List::with_room(rt.alloc(), 1)?;
+    agents.push(Agent {
+        pos: V2 { x: 1, y: 2 },
+        vel: V2 { x: 3, y: 4 },
+        pref: V2 { x: 5, y: 6 },
+        radius: 7,
+        speed: 8,
+        range: 9,
+        most: 10,
+        horizon: 11,
+        wall_horizon: 12,
+    });
+    let mut goals = List::with_room(rt.alloc(), 1)?;
+    goals.push(Goal {
+        controller: 3,
+        agent: 0,
+        at: V2 { x: 0, y: 0 },
+        pace: 1,
+    });
+    let scenario = Scenario::of(
+        2,
+        agents,
+        List::with_room(rt.alloc(), 0)?,
+        List::with_room(rt.alloc(), 0)?,
+        goals,
+    );
+    assert_eq!(rt; scenario.controllers(), 4);
+    let frame = first_frame(rt.alloc(), &scenario)?;
+    assert_eq!(rt; frame.number, 0);
+    let body = Body {
+        agent: 0,
+        pos: V2 { x: 1, y: 2 },
+        vel: V2 { x: 3, y: 4 },
+        pref: V2 { x: 5, y: 6 },
+        mark: Mark::Start,
+        relief: 0,
+    };
+    assert_eq!(rt; frame.bodies.items(), [body].as_slice());
+    Ok(())
+}

@@ -1,0 +1,239 @@
+// The top call over sources and sinks in memory.
+ghost use Rattle.std.specs.Prelude.{◌≤◌};
+
+use crate::orca;
+use fixed_vec::{List, NoMemory};
+use outside_io::{MemSink, MemSource, OpenGate};
+use std::alloc::Global;
+use std::test::Fail;
+
+const ONE_AGENT: &[u8] = b"crowd,1\nsteps,1\nagent,0,0,0,0,300,0,500,400,15000,0,10,4\n";
+
+const ONE_AGENT_LINES: [&[u8]; 8] = [
+    b"crowd,1\n",
+    b"steps,1\n",
+    b"agent,0,0,0,0,300,0,500,400,15000,0,10,4\n",
+    b"frame,0\n",
+    b"body,0,0,0,0,0,300,0,start,0\n",
+    b"frame,1\n",
+    b"body,0,300,0,300,0,300,0,feasible,0\n",
+    b"end,1\n",
+];
+
+const ROOM: usize = 1000;
+
+fn bytes_of(alloc: Global, text: &[u8]) -> Result<List<u8>, NoMemory> {
+    let mut bytes = List::with_room(alloc, text.len())?;
+    for byte in text {
+        bytes.reserve(1)?;
+        bytes.push(*byte);
+    }
+    Ok(bytes)
+}
+
+// The calls that are to fail: none, or the one of this number, from 0.
+fn fails_of(alloc: Global, call: Option<u32>) -> Result<List<u32>, NoMemory> {
+    let mut calls = List::with_room(alloc, 1)?;
+    if let Some(number) = call {
+        calls.push(number);
+    }
+    Ok(calls)
+}
+
+// What a call answered, and what both sinks hold.
+#[derive(Drop)]
+struct Ended {
+    status: u8,
+    out: MemSink,
+    err: MemSink,
+}
+
+// Which call of each end is to fail, if any.
+#[derive(Clone, Copy)]
+struct Faults {
+    source: Option<u32>,
+    out: Option<u32>,
+    err: Option<u32>,
+}
+
+const NONE: Faults = Faults {
+    source: None,
+    out: None,
+    err: None,
+};
+
+fn run_on(alloc: Global, words: &[&str], input: List<u8>, faults: Faults) -> Result<Ended, Fail> {
+    let mut source = MemSource::of(input, 4096, fails_of(alloc, faults.source)?);
+    let mut out = MemSink::open(alloc, ROOM, fails_of(alloc, faults.out)?)?;
+    let mut err = MemSink::open(alloc, ROOM, fails_of(alloc, faults.err)?)?;
+    let status = orca(alloc, words, &mut source, &mut out, &mut err, &OpenGate);
+    Ok(Ended { status, out, err })
+}
+
+fn run(alloc: Global, input: &[u8]) -> Result<Ended, Fail> {
+    run_on(alloc, &["run"], bytes_of(alloc, input)?, NONE)
+}
+
+#[test]
+fn prints_one_agent(rt: HostRuntime) -> Result<(), Fail> {
+    let ended = run(rt.alloc(), ONE_AGENT)?;
+    assert_eq!(rt; ended.status, 0);
+    let text: &[u8] =
+        b"crowd,1\nsteps,1\nagent,0,0,0,0,300,0,500,400,15000,0,10,4\nframe,0\nbody,0,0,0,0,0,300,0,start,0\nframe,1\nbody,0,300,0,300,0,300,0,feasible,0\nend,1\n";
+    assert_eq!(rt; ended.out.held().len(), 144);
+    assert_eq!(rt; ended.out.held(), text);
+    assert_eq!(rt; ended.err.held(), b"".as_slice());
+    Ok(())
+}
+
+#[test]
+fn prints_no_agents(rt: HostRuntime) -> Result<(), Fail> {
+    let ended = run(rt.alloc(), b"crowd,1\nsteps,1\n")?;
+    assert_eq!(rt; ended.status, 0);
+    assert_eq!(rt;
+        ended.out.held(),
+        b"crowd,1\nsteps,1\nframe,0\nframe,1\nend,1\n".as_slice()
+    );
+    Ok(())
+}
+
+#[test]
+fn prints_no_steps(rt: HostRuntime) -> Result<(), Fail> {
+    let ended = run(
+        rt.alloc(),
+        b"crowd,1\nsteps,0\nagent,0,0,0,0,300,0,500,400,15000,0,10,4\n",
+    )?;
+    assert_eq!(rt; ended.status, 0);
+    assert_eq!(rt;
+        ended.out.held(),
+        b"crowd,1\nsteps,0\nagent,0,0,0,0,300,0,500,400,15000,0,10,4\nframe,0\nbody,0,0,0,0,0,300,0,start,0\nend,0\n".as_slice()
+    );
+    Ok(())
+}
+
+#[test]
+fn each_line_is_one_piece(rt: HostRuntime) -> Result<(), Fail> {
+    for call in 0..8u32 {
+        let faults = Faults {
+            out: Some(call),
+            ..NONE
+        };
+        let input = bytes_of(rt.alloc(), ONE_AGENT)?;
+        let ended = run_on(rt.alloc(), &["run"], input, faults)?;
+        let mut size = 0usize;
+        for line in ONE_AGENT_LINES.iter().take(call as usize) {
+            size = size.wrapping_add(line.len());
+        }
+        assert_eq!(rt; ended.status, 5);
+        assert_eq!(rt; ended.out.held().len(), size);
+        assert_eq!(rt; ended.err.held(), b"write fault\n".as_slice());
+    }
+    Ok(())
+}
+
+#[test]
+fn third_write_fails(rt: HostRuntime) -> Result<(), Fail> {
+    let faults = Faults {
+        out: Some(2),
+        ..NONE
+    };
+    let input = bytes_of(rt.alloc(), ONE_AGENT)?;
+    let ended = run_on(rt.alloc(), &["run"], input, faults)?;
+    assert_eq!(rt; ended.status, 5);
+    assert_eq!(rt; ended.out.held(), b"crowd,1\nsteps,1\n".as_slice());
+    Ok(())
+}
+
+#[test]
+fn first_read_fails(rt: HostRuntime) -> Result<(), Fail> {
+    let faults = Faults {
+        source: Some(0),
+        ..NONE
+    };
+    let input = bytes_of(rt.alloc(), ONE_AGENT)?;
+    let ended = run_on(rt.alloc(), &["run"], input, faults)?;
+    assert_eq!(rt; ended.status, 4);
+    assert_eq!(rt; ended.out.held(), b"".as_slice());
+    assert_eq!(rt; ended.err.held(), b"read fault\n".as_slice());
+    Ok(())
+}
+
+#[test]
+fn failing_error_output_changes_no_status(rt: HostRuntime) -> Result<(), Fail> {
+    let faults = Faults {
+        err: Some(0),
+        ..NONE
+    };
+    let ended = run_on(rt.alloc(), &["walk"], bytes_of(rt.alloc(), b"")?, faults)?;
+    assert_eq!(rt; ended.status, 2);
+    assert_eq!(rt; ended.err.held(), b"".as_slice());
+    Ok(())
+}
+
+#[test]
+fn input_is_one_byte_too_long(rt: HostRuntime) -> Result<(), Fail> {
+    let mut input = List::with_room(rt.alloc(), 16_777_217)?;
+    for _ in 0..16_777_217usize {
+        input.reserve(1)?;
+        input.push(b'\n');
+    }
+    let ended = run_on(rt.alloc(), &["run"], input, NONE)?;
+    assert_eq!(rt; ended.status, 6);
+    assert_eq!(rt; ended.out.held(), b"".as_slice());
+    assert_eq!(rt; ended.err.held(), b"input too long\n".as_slice());
+    Ok(())
+}
+
+#[test]
+fn forms_that_are_not_built(rt: HostRuntime) -> Result<(), Fail> {
+    let inputs: [&[u8]; 8] = [
+        b"",
+        b"crowd,1\nsteps,",
+        b"crowd,2\nsteps,1\n",
+        b"crowd,1\nsteps,100001\n",
+        b"crowd,1\nsteps,1\nagent,0,0,0,0,1000,0,500,66,15000,10,10,4\nagent,0,0,0,0,1000,0,500,66,15000,10,10,4\n",
+        b"crowd,1\nsteps,1\nagent,0,0,0,0,1000,0,500,66,15000,10,10,4\n",
+        b"crowd,1\nsteps,1\nagent,0,0,0,0,300,0,0,400,15000,0,10,4\n",
+        b"crowd,1\nsteps,1\nsegment,-2000,800,2000,800\n",
+    ];
+    for input in inputs.iter() {
+        let ended = run(rt.alloc(), input)?;
+        assert_eq!(rt; ended.status, 8);
+        assert_eq!(rt; ended.out.held(), b"".as_slice());
+        assert_eq!(rt; ended.err.held(), b"not yet\n".as_slice());
+    }
+    Ok(())
+}
+
+#[test]
+fn words_that_are_no_command(rt: HostRuntime) -> Result<(), Fail> {
+    let lists: [&[&str]; 5] = [
+        &[],
+        &["walk"],
+        &["run", "run"],
+        &["run", "--workers", "2"],
+        &["Run"],
+    ];
+    for words in lists.iter() {
+        let ended = run_on(rt.alloc(), words, bytes_of(rt.alloc(), ONE_AGENT)?, NONE)?;
+        assert_eq!(rt; ended.status, 2);
+        assert_eq!(rt; ended.out.held(), b"".as_slice());
+        assert_eq!(rt;
+            ended.err.held(),
+            b"usage: crowd run|check|sample|soak|live\n".as_slice()
+        );
+    }
+    Ok(())
+}
+
+// A quoted number, a line end of two bytes and a byte order mark are read like any other.
+#[test]
+fn reads_records_as_csv_does(rt: HostRuntime) -> Result<(), Fail> {
+    let ended = run(
+        rt.alloc(),
+        b"\xef\xbb\xbfcrowd,\"1\"\r\n\r\nsteps,01\r\nagent,-0,0,0,0,300,0,500,400,15000,0,10,4",
+    )?;
+    assert_eq!(rt; ended.status, 0);
+    assert_eq!(rt; ended.out.held().len(), 144);
+    Ok(())
+}
