@@ -1,4 +1,6 @@
 // Lines of every kind, as the format has them.
+ghost use Rattle.frame_text.specs.Printed.{FitsBody};
+
 use crate::printed::Printed;
 use crate::{write_end, write_frame};
 use crowd_data::{Body, Frame, Goal, Mark, Post, SCRIPT, ScriptPost, Segment};
@@ -6,7 +8,9 @@ use fixed_vec::{List, V2};
 use outside_io::MemSink;
 use std::test::Fail;
 
-fn body(mark: Mark) -> Body {
+fn body(mark: Mark) -> Body
+    ensures { FitsBody result }
+{
     Body {
         agent: 0,
         pos: V2 { x: -1, y: 2 },

@@ -1,5 +1,5 @@
 -- What a ring says of each of its points and edges.
-use Rattle.std.proofs.Common.{◌≡◌, ℕ, zero, suc, ◌+◌, ◌-◌, ◌<◌, refl, Bool, true, ◌&&◌, List, [], ◌∷◌, Some, length, take, ◌++◌, ap, ◌∙◌, arith, ℤ, pos, ◌+ℤ◌, ◌-ℤ◌, ◌*ℤ◌, ◌≤ℤ◌, ◌<ℤ◌, unsigned_abs, int_lt}
+use Rattle.std.proofs.Common.{◌≡◌, ℕ, zero, suc, ◌+◌, ◌-◌, ◌<◌, refl, true, ◌&&◌, List, [], ◌∷◌, Some, length, take, ◌++◌, ap, ◌∙◌, arith, ℤ, pos, ◌+ℤ◌, ◌-ℤ◌, ◌*ℤ◌, ◌≤ℤ◌, ◌<ℤ◌, unsigned_abs, int_lt}
 use Rattle.std.specs.List.{slice_get, slice_index_or}
 use Rattle.std.proofs.lemmas.Int.{ints}
 use Rattle.std.proofs.lemmas.List.{take_more}
@@ -13,13 +13,6 @@ use Rattle.fixed_vec.specs.HalfPlane.{Plane}
 use Rattle.crowd_data.specs.RingPlanes.{edge_plane, edge_planes, ring_planes, ring_planes_of, ring_points}
 use Rattle.hard_plane.specs.Ring.{is_at, all_at, turns_left, is_round, is_ring, IsNeighbour}
 use Rattle.hard_plane.proofs.Sizes.{square_abs, root_below}
-
--- the first of two tests, and the second
-pub first_of_two : (a b : Bool) → (a && b) ≡ true → a ≡ true
-first_of_two a b t = (both_of a b t).0
-
-pub second_of_two : (a b : Bool) → (a && b) ≡ true → b ≡ true
-second_of_two a b t = (both_of a b t).1
 
 pub ring_bounds : (r : ℤ) (ps : List V2) → is_ring r ps ≡ true → (pos 0 <ℤ r) × (r <ℤ pos 1024) × (is_round r ps ≡ true)
 ring_bounds r ps t =

@@ -1,8 +1,9 @@
 -- Rings: points that go counter-clockwise round the origin at one distance, and the half-planes of their edges.
-use Rattle.std.specs.Prelude.{◌≡◌, ℕ, ◌-◌, Bool, true, false, ◌&&◌, List, [], ◌∷◌, Some, slice_get, ℤ, pos, ◌*ℤ◌, ◌<ℤ◌, int_lt}
+use Rattle.std.specs.Prelude.{◌≡◌, ℕ, ◌-◌, Bool, true, false, ◌&&◌, List, [], ◌∷◌, Some, slice_get, ℤ, pos, ◌+ℤ◌, ◌-ℤ◌, ◌*ℤ◌, ◌≤ℤ◌, ◌<ℤ◌, int_lt}
 use Rattle.std.specs.Ordering.{int_eq}
 use Rattle.fixed_vec.specs.declared.vector.V2.{V2}
 use Rattle.fixed_vec.specs.Vector.{cross, square}
+use Rattle.fixed_vec.specs.Point.{Rational}
 use Rattle.crowd_data.specs.RingPlanes.{edge_plane, ring_planes_of}
 
 -- the point is so far from the origin
@@ -32,3 +33,12 @@ is_ring radius points = int_lt (pos 0) radius && (int_lt radius (pos 1024) && is
 pub record IsNeighbour (radius : ℤ) (points : List V2) (k : ℕ) (p neighbour : V2) : Type 0 where
   pub left : pos 0 <ℤ cross p neighbour
   pub plane : (speed : ℕ) → slice_get (ring_planes_of radius points speed) k ≡ Some (edge_plane radius (speed - 1) p neighbour)
+
+-- 99 hundredths of the speed less one, less one, in hundredths
+abbrev pub inner_reach : ℕ → ℤ
+inner_reach speed = pos 99 *ℤ pos (speed - 1) -ℤ pos 100
+
+-- the point is at most so far from the origin: well within the polygon of the speed
+pub record IsInner (speed : ℕ) (p : Rational) : Type 0 where
+  pub some : pos 0 ≤ℤ inner_reach speed
+  pub near : (pos 10000 *ℤ (p.x *ℤ p.x +ℤ p.y *ℤ p.y)) ≤ℤ (inner_reach speed *ℤ inner_reach speed *ℤ (p.q *ℤ p.q))

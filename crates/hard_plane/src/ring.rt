@@ -1,11 +1,12 @@
 // Rings of points round the origin, and the polygon of a speed.
-ghost use Rattle.std.specs.Prelude.{◌≡◌, ◌<◌, ◌≤◌, ◌^◌, Some, slice_get, ℤ, pos, ◌*ℤ◌, ◌<ℤ◌, IsTrue, unsigned_abs};
+ghost use Rattle.std.specs.Prelude.{◌≡◌, ◌<◌, ◌≤◌, ◌^◌, All, Some, slice_get, ℤ, pos, ◌*ℤ◌, ◌≤ℤ◌, ◌<ℤ◌, IsTrue, unsigned_abs};
 ghost use Rattle.exact_algebra.specs.Numbers.{ceil};
-ghost use Rattle.fixed_vec.specs.Vector.{IsBelow, dot};
-ghost use Rattle.crowd_data.specs.RingPlanes.{ring_planes_of, ring_points};
-ghost use Rattle.hard_plane.specs.Ring.{is_ring, IsNeighbour};
+ghost use Rattle.fixed_vec.specs.Point.{IsIn, rounded_of};
+ghost use Rattle.fixed_vec.specs.Vector.{IsBelow, dot, square};
+ghost use Rattle.crowd_data.specs.RingPlanes.{ring_planes, ring_planes_of, ring_points};
+ghost use Rattle.hard_plane.specs.Ring.{is_ring, IsInner, IsNeighbour};
 
-use fixed_vec::{HalfPlane, V2, minus, perp};
+use fixed_vec::{HalfPlane, Point, V2, minus, perp};
 
 // All whole points at distance 65 from the origin.
 const POINTS: [V2; 36] = [
@@ -90,6 +91,16 @@ impl Ring<36> {
             points: POINTS,
         }
     }
+
+    /// The inner law. It answers nothing: its contract says that a point no longer than 0.99 times the
+    /// speed less one, less one, is in all half-planes of the speed.
+    pub fn inner_law(speed: u32, point: &Point)
+        requires speed { speed ≤ 16384 }
+        requires inner { IsInner speed point.now }
+        ensures { All (λ plane. IsIn plane point.now) (ring_planes speed) }
+    {
+        let _ = point.q();
+    }
 }
 
 impl<const K: usize> Ring<K> {
@@ -135,5 +146,17 @@ impl<const K: usize> Ring<K> {
         let m = self.point(k);
         let normal = perp(minus(self.neighbour(k, m), m));
         HalfPlane::of(normal, self.offset(speed.saturating_sub(1), normal, m))
+    }
+
+    /// The speed law. It answers nothing: its contract says that a point in all half-planes of a speed
+    /// is near enough to be rounded, and that its rounding is no longer than the speed.
+    pub fn speed_law(&self, speed: u32, point: &Point)
+        requires speed { speed ≤ 16384 }
+        requires inside { All (λ plane. IsIn plane point.now) (ring_planes_of self.now.radius self.now.points speed) }
+        ensures across { pos (unsigned_abs point.now.x) ≤ℤ (point.now.q *ℤ pos (2 ^ 32)) }
+        ensures along { pos (unsigned_abs point.now.y) ≤ℤ (point.now.q *ℤ pos (2 ^ 32)) }
+        ensures within_speed { square (rounded_of point.now) ≤ℤ (pos speed *ℤ pos speed) }
+    {
+        let _ = point.q();
     }
 }

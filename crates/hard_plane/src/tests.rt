@@ -1,6 +1,6 @@
 // Half-planes computed by hand.
 use crate::Ring;
-use fixed_vec::V2;
+use fixed_vec::{Point, V2};
 
 #[test]
 fn polygon_of_a_speed(rt: HostRuntime) {
@@ -27,4 +27,14 @@ fn no_way_from_the_origin_at_speeds_0_and_1(rt: HostRuntime) {
         assert_eq!(rt; ring.plane(k, 0).c(), 0, "at {k}");
         assert_eq!(rt; ring.plane(k, 1).c(), 0, "at {k}");
     }
+}
+
+// What is well within a speed is in its half-planes, so it is near enough to be rounded.
+#[test]
+fn rounds_a_point_within_a_speed(rt: HostRuntime) {
+    let ring = Ring::<36>::plain();
+    let point = Point::of(61, 81, 2);
+    Ring::<36>::inner_law(66, &point);
+    ring.speed_law(66, &point);
+    assert_eq!(rt; point.rounded(), V2 { x: 31, y: 41 });
 }

@@ -1,0 +1,4 @@
+pub mod Relief
+pub mod Border
+pub mod Span
+pub mod Line
