@@ -1,1 +1,3 @@
+pub mod ClearOfSegment
+pub mod WallCases
 mod Examples

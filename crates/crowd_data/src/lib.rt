@@ -7,6 +7,7 @@
 #![tactic(auto)]
 
 mod agent;
+mod clearance;
 mod frame;
 mod pair;
 mod post;
@@ -14,6 +15,7 @@ mod scenario;
 mod segment;
 
 pub use agent::Agent;
+pub use clearance::clear;
 pub use frame::{Body, Frame, Mark, Moves, first_frame};
 pub use pair::{Disc, Place, Region};
 pub use post::{Goal, Post, SCRIPT, ScriptPost};
