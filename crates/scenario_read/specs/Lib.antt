@@ -4,3 +4,6 @@ pub mod Fields
 pub mod Plain
 pub mod Progress
 pub mod Held
+pub mod Reading
+pub mod Taking
+pub mod Told

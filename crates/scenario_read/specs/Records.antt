@@ -15,3 +15,7 @@ records_after s bytes = records_from default_config (length bytes + 1) s bytes
 -- the records that `csv` gives for bytes: commas, double quotes, no header row, any lengths, no trimming
 abbrev pub records_of : List ℕ → List Record
 records_of bytes = records_after st.StartRecord (strip_bom bytes)
+
+-- so many records
+abbrev pub Rows : Type 0
+Rows = List Record

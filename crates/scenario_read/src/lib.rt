@@ -1,11 +1,20 @@
 //! Reads scenarios: bytes, the records that `csv` gives for them, and what the records stand for.
 #![tactic(auto)]
 
+mod cause;
 mod fields;
+mod motion;
 mod plain;
 mod progress;
+mod read;
+mod reading;
+mod refusal;
+mod scenario;
+mod standing;
 
+pub use cause::{Cause, ScenarioFault};
 pub use plain::{PlainFault, read_plain};
+pub use read::read_scenario;
 
 #[cfg(test)]
 mod tests;

@@ -39,7 +39,8 @@ fn is_of_kind(row: &ByteRecord, kind: &[u8], count: usize) -> bool
     row.len() == count && field(row, 0) == kind
 }
 
-fn is_header(row: &ByteRecord) -> bool
+/// Whether a record is the header.
+pub(crate) fn is_header(row: &ByteRecord) -> bool
     ensures { result ≡ is_header (fields_of row.now) }
 {
     is_of_kind(row, b"crowd", 2) && field(row, 1) == b"1".as_slice()
