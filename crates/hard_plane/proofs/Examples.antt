@@ -19,12 +19,11 @@ unfolding ring_planes
 first_plane = refl
 
 -- an agent of radius 500 at the origin, whose wall horizon is 4 steps
-walker : Agent
+abbrev walker : Agent
 walker = record { pos = zero_vector; vel = zero_vector; pref = zero_vector; radius = 500; speed = 400; range = 0; most = 0; horizon = 1; wall_horizon = 4 }
 
 -- a wall from (-2000, 800) to (2000, 800): normal (0, -4000), offset (4000 * 500 - 4000 * 800) / 4
 wall_beside : wall_plane zero_vector walker (record { a = record { x = negsuc 1999; y = pos 800 }; b = record { x = pos 2000; y = pos 800 } }) ≡ record { n = record { x = pos 0; y = negsuc 3999 }; c = negsuc 299999 }
-unfolding walker
 wall_beside =
     let root : ceil_root 16000000 ≡ 4000 = ceil_root_is 16000000 4000 (omega arith) (λ j h. omega (arith, mul-lt j j 4000 4000 h h)) in
     rw root refl
