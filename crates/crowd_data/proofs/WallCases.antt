@@ -1,5 +1,5 @@
 -- What holds in each case of a wall plane holds of the wall plane.
-use Rattle.std.proofs.Common.{◌≡◌, refl, ◌∙◌, Bool, true, false, ◌&&◌, if◌then◌else◌, arith, ℤ, pos, ◌≤ℤ◌, ◌<ℤ◌, int_lt, int_le}
+use Rattle.std.proofs.Common.{◌≡◌, refl, Bool, true, false, ◌&&◌, if◌then◌else◌, arith, ℤ, pos, ◌≤ℤ◌, ◌<ℤ◌, int_lt, int_le}
 use Rattle.std.proofs.lemmas.Int.{ints}
 use Rattle.exact_algebra.proofs.Tests.{le_true, le_false, lt_true, lt_false}
 use Rattle.fixed_vec.specs.declared.vector.V2.{V2}
@@ -45,29 +45,3 @@ wall_elim at agent segment P beside before after =
     (λ t. by_bool (int_le (dot p d) (pos 0)) _ _ P
     (λ l. before (le_true (dot p d) (pos 0) l))
     (λ l. after (beside_false p d t (le_false (dot p d) (pos 0) l))))
-
--- ---- the case that the tests choose
-
-cond-true : {A : Type 0} (b : Bool) (x y : A) → b ≡ true → (if b then x else y) ≡ x
-cond-true true x y e = refl
-cond-true false x y e = absurd (cc e)
-
-cond-false : {A : Type 0} (b : Bool) (x y : A) → b ≡ false → (if b then x else y) ≡ y
-cond-false true x y e = absurd (cc e)
-cond-false false x y e = refl
-
-module _ (at : V2) (agent : Agent) (segment : Segment) where
-  abbrev p : V2
-  p = minus at segment.a
-
-  abbrev d : V2
-  d = minus segment.b segment.a
-
-  pub wall_plane-beside : is_beside p d ≡ true → wall_plane at agent segment ≡ plane_from (normal_beside p d) segment.a at agent
-  wall_plane-beside t = cond-true (is_beside p d) _ _ t
-
-  pub wall_plane-before : is_beside p d ≡ false → int_le (dot p d) (pos 0) ≡ true → wall_plane at agent segment ≡ plane_from p segment.a at agent
-  wall_plane-before f t = cond-false (is_beside p d) _ _ f ∙ cond-true (int_le (dot p d) (pos 0)) _ _ t
-
-  pub wall_plane-after : is_beside p d ≡ false → int_le (dot p d) (pos 0) ≡ false → wall_plane at agent segment ≡ plane_from (minus at segment.b) segment.b at agent
-  wall_plane-after f t = cond-false (is_beside p d) _ _ f ∙ cond-false (int_le (dot p d) (pos 0)) _ _ t

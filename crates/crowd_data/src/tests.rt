@@ -1,5 +1,5 @@
 // Scenarios that stand for themselves, and their first frames.
-use crate::{Agent, Body, Goal, Mark, Scenario, first_frame};
+use crate::{Agent, Body, Goal, Mark, Scenario, Segment, clear, first_frame};
 use fixed_vec::{List, V2};
 use std::test::Fail;
 
@@ -44,4 +44,29 @@ fn first_frame_has_the_agents_as_they_are(rt: HostRuntime) -> Result<(), Fail> {
     };
     assert_eq!(rt; frame.bodies.items(), [body].as_slice());
     Ok(())
+}
+
+#[test]
+fn discs_clear_of_segments_by_hand(rt: HostRuntime) {
+    // (radius of a disc at the origin, one end, the other end, clear)
+    let walls = [
+        // touched beside
+        (500, V2 { x: -2000, y: 500 }, V2 { x: 2000, y: 500 }, true),
+        (500, V2 { x: -2000, y: 499 }, V2 { x: 2000, y: 499 }, false),
+        // slanted: on 4x - 3y = 2500, touched at (400, -300), and on 4x - 3y = 2496
+        (500, V2 { x: 100, y: -700 }, V2 { x: 700, y: 100 }, true),
+        (501, V2 { x: 100, y: -700 }, V2 { x: 700, y: 100 }, false),
+        (500, V2 { x: 99, y: -700 }, V2 { x: 699, y: 100 }, false),
+        // one point
+        (500, V2 { x: 300, y: 400 }, V2 { x: 300, y: 400 }, true),
+        (500, V2 { x: 300, y: 399 }, V2 { x: 300, y: 399 }, false),
+        // on a line through the centre, touched at an end
+        (500, V2 { x: 500, y: 0 }, V2 { x: 2000, y: 0 }, true),
+        (501, V2 { x: 500, y: 0 }, V2 { x: 2000, y: 0 }, false),
+        (500, V2 { x: 2000, y: 0 }, V2 { x: 500, y: 0 }, true),
+        (501, V2 { x: 2000, y: 0 }, V2 { x: 500, y: 0 }, false),
+    ];
+    for (radius, a, b, want) in walls {
+        assert_eq!(rt; clear(V2 { x: 0, y: 0 }, radius, &Segment { a, b }), want);
+    }
 }

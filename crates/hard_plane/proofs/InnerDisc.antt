@@ -124,4 +124,5 @@ inner_in_ring r (p ∷ ps) v speed hr hq hs t u inner =
 
 -- and in each half-plane of the speed polygon
 pub inner_in_polygon : (v : Rational) (speed : ℕ) → pos 0 <ℤ v.q → speed ≤ 16384 → IsInner speed v → All (λ plane. IsIn plane v) (ring_planes speed)
+unfolding ring_planes
 inner_in_polygon v speed hq hs inner = inner_in_ring (pos 65) ring_points v speed (omega (arith, ints)) hq hs refl refl inner

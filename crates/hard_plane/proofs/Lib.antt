@@ -5,4 +5,5 @@ pub mod Sector
 pub mod ShortPoint
 pub mod SpeedPolygon
 pub mod InnerDisc
+pub mod WallPlane
 pub mod Examples

@@ -1,6 +1,27 @@
 // Half-planes computed by hand.
-use crate::Ring;
-use fixed_vec::{Point, V2};
+ghost use Rattle.std.specs.Prelude.{◌≡◌};
+ghost use Rattle.crowd_data.specs.Limits.{IsPosition};
+ghost use Rattle.fixed_vec.specs.HalfPlane.{FitsPlane, drawn_of};
+
+use crate::{Ring, in_reach, wall_plane};
+use crowd_data::{Agent, Segment, clear};
+use fixed_vec::{HalfPlane, Point, V2};
+use std::process::Abort;
+
+const ORIGIN: V2 = V2 { x: 0, y: 0 };
+
+// It comes 500 + 4 * 400 = 2100 far within its wall horizon.
+const WALKER: Agent = Agent {
+    pos: ORIGIN,
+    vel: ORIGIN,
+    pref: ORIGIN,
+    radius: 500,
+    speed: 400,
+    range: 0,
+    most: 0,
+    horizon: 1,
+    wall_horizon: 4,
+};
 
 #[test]
 fn polygon_of_a_speed(rt: HostRuntime) {
@@ -37,4 +58,92 @@ fn rounds_a_point_within_a_speed(rt: HostRuntime) {
     Ring::<36>::inner_law(66, &point);
     ring.speed_law(66, &point);
     assert_eq!(rt; point.rounded(), V2 { x: 31, y: 41 });
+}
+
+#[test]
+fn reaches_as_far_as_its_box_grown(rt: HostRuntime) {
+    let wall = Segment {
+        a: V2 { x: 2000, y: 800 },
+        b: V2 { x: -2000, y: 800 },
+    };
+    // (position, in reach)
+    let places = [
+        (ORIGIN, true),
+        (V2 { x: 4100, y: 800 }, true),
+        (V2 { x: 4101, y: 800 }, false),
+        (V2 { x: -4100, y: 800 }, true),
+        (V2 { x: -4101, y: 800 }, false),
+        (V2 { x: 0, y: 2900 }, true),
+        (V2 { x: 0, y: 2901 }, false),
+        (V2 { x: 0, y: -1300 }, true),
+        (V2 { x: 0, y: -1301 }, false),
+    ];
+    for (pos, want) in places {
+        assert_eq!(rt; in_reach(pos, &WALKER, &wall), want);
+    }
+}
+
+// The wall plane of the walker and this segment, which is in its reach and which it is clear of.
+fn plane_of(rt: &impl Abort, a: V2, b: V2) -> HalfPlane
+    requires a_limit { IsPosition a }
+    requires b_limit { IsPosition b }
+    ensures { FitsPlane (drawn_of result) }
+{
+    let wall = Segment { a, b };
+    assert!(rt; in_reach(ORIGIN, &WALKER, &wall));
+    assert!(rt; clear(ORIGIN, WALKER.radius, &wall));
+    wall_plane(ORIGIN, &WALKER, &wall)
+}
+
+#[test]
+fn wall_planes_by_hand(rt: HostRuntime) {
+    // (one end, the other end, normal, offset, offset when drawn in)
+    let walls = [
+        // beside it, on its right
+        (
+            V2 { x: -2000, y: 800 },
+            V2 { x: 2000, y: 800 },
+            V2 { x: 0, y: -4000 },
+            -300000,
+            -298000,
+        ),
+        // beside it, on its left
+        (
+            V2 { x: 2000, y: 800 },
+            V2 { x: -2000, y: 800 },
+            V2 { x: 0, y: -4000 },
+            -300000,
+            -298000,
+        ),
+        // before its near end
+        (
+            V2 { x: 1000, y: 0 },
+            V2 { x: 2000, y: 0 },
+            V2 { x: -1000, y: 0 },
+            -125000,
+            -124500,
+        ),
+        // beyond its far end
+        (
+            V2 { x: 2000, y: 0 },
+            V2 { x: 1000, y: 0 },
+            V2 { x: -1000, y: 0 },
+            -125000,
+            -124500,
+        ),
+        // one point: the root of 1,000,001 and -499,501 / 4 are rounded up
+        (
+            V2 { x: 1000, y: 1 },
+            V2 { x: 1000, y: 1 },
+            V2 { x: -1000, y: -1 },
+            -124875,
+            -124374,
+        ),
+    ];
+    for (a, b, normal, offset, drawn_offset) in walls {
+        let plane = plane_of(&rt, a, b);
+        assert_eq!(rt; plane.n(), normal);
+        assert_eq!(rt; plane.c(), offset);
+        assert_eq!(rt; plane.drawn().c(), drawn_offset);
+    }
 }
