@@ -3,7 +3,7 @@ use Rattle.std.proofs.Common.{◌≡◌, ℕ, ◌+◌, ◌-◌, ◌*◌, ◌<◌
 use Rattle.std.proofs.lemmas.Int.{ints}
 use Rattle.std.proofs.lemmas.List.{get_or_append_left, get_or-append_right, get_or-take, get_or-drop, get_or-map, get_or_default, get_or_read, length-take-le, length-drop, length-map, length-append}
 use Rattle.std.specs.List.{All}
-use Rattle.std.proofs.lemmas.List.Elements.{All-map, All-drop}
+use Rattle.std.proofs.lemmas.List.Elements.{All-cons, All-drop}
 use Rattle.std.proofs.lemmas.Bool.{cases_lt}
 use Rattle.std.proofs.Math.Nat.{mul-le-mul_right}
 use Rattle.exact_algebra.proofs.Ring.{quotes, shown}
@@ -13,7 +13,7 @@ use Rattle.fixed_vec.specs.Vector.{square}
 use Rattle.fixed_vec.specs.HalfPlane.{Plane, FitsPlane, relieved_of, whole_length}
 use Rattle.fixed_vec.specs.Point.{Rational, IsPoint, IsIn}
 use Rattle.fixed_vec.specs.Meeting.{relieved_after}
-use Rattle.planar_line.specs.Relief.{KeepBounds, no_plane}
+use Rattle.planar_line.specs.Relief.{CanBeRelieved, HasRoom, KeepBounds, no_plane}
 use Rattle.planar_line.proofs.Toward.{weak}
 
 -- no relief changes nothing
@@ -70,20 +70,20 @@ module _ (hard relief : ℕ) (planes : List Plane) (le : hard ≤ length planes)
       (λ a. subst (λ g. IsIn g p) (sym (get_or-soft k no_plane a l)) (relieved_in (get_or planes k no_plane) relief p hp inside))
       (cases_lt k hard)
 
-  -- each half-plane that is relieved keeps its bounds
-  pub keeps : KeepBounds hard relief planes → (k : ℕ) → hard ≤ k → k < length planes → FitsPlane (relieved_of (get_or planes k no_plane) relief)
+  keeps : KeepBounds hard relief planes → (k : ℕ) → hard ≤ k → k < length planes → CanBeRelieved (get_or planes k no_plane) relief
   keeps bounds k m l =
       let u = length-drop hard planes in
-      let n = length-map (drop hard planes) (λ plane. relieved_of plane relief) in
-      subst FitsPlane (get_or-others k no_plane m l) (bounds (k - hard) no_plane (omega arith))
+      let at : hard + (k - hard) ≡ k = omega arith in
+      let read = get_or-drop hard planes (k - hard) no_plane ∙ ap (λ j. get_or planes j no_plane) at in
+      subst (λ plane. CanBeRelieved plane relief) read (bounds (k - hard) no_plane (omega arith))
 
   -- the half-plane that was read at a place
   module _ (k : ℕ) (plane : Plane) (l : k < length planes) (read : plane ≡ get_or planes k plane) where
     pub plane-read : plane ≡ get_or planes k no_plane
     plane-read = get_or_read planes k plane l read no_plane
 
-    pub plane-keeps : KeepBounds hard relief planes → hard ≤ k → FitsPlane (relieved_of plane relief)
-    plane-keeps bounds m = subst (λ g. FitsPlane (relieved_of g relief)) (sym plane-read) (keeps bounds k m l)
+    pub plane-keeps : KeepBounds hard relief planes → hard ≤ k → CanBeRelieved plane relief
+    plane-keeps bounds m = subst (λ g. CanBeRelieved g relief) (sym plane-read) (keeps bounds k m l)
 
     pub plane-hard : k < hard → plane ≡ get_or (relieved_after hard relief planes) k no_plane
     plane-hard m = plane-read ∙ sym (get_or-hard k no_plane m)
@@ -94,28 +94,40 @@ module _ (hard relief : ℕ) (planes : List Plane) (le : hard ≤ length planes)
     pub plane-in : (p : Rational) → IsPoint p → IsIn plane p → IsIn (get_or (relieved_after hard relief planes) k no_plane) p
     plane-in p hp inside = relieved_after-in k p l hp (subst (λ g. IsIn g p) plane-read inside)
 
--- ---- half-planes with room for any relief
--- a half-plane with an offset below half of what its type takes
-pub record HasRoom (plane : Plane) : Type 0 where
-  pub fits : FitsPlane plane
-  pub room : unsigned_abs plane.c < 2 ^ 52
+-- ---- bounds
+-- a half-plane that can be relieved keeps all its bounds
+pub relieved-fits : (plane : Plane) (relief : ℕ) → FitsPlane plane → CanBeRelieved plane relief → FitsPlane (relieved_of plane relief)
+relieved-fits plane relief fits above = record { nonzero = fits.nonzero; normal = fits.normal; offset = (let size = fits.offset in omega (arith, ints)) }
+
+-- what can be relieved can be relieved less
+pub relieved-less : (plane : Plane) (d e : ℕ) → d ≤ e → CanBeRelieved plane e → CanBeRelieved plane d
+relieved-less plane d e le above =
+    let more : d * whole_length plane.n ≤ e * whole_length plane.n = mul-le-mul_right (whole_length plane.n) le in
+    omega (arith, ints)
+
+pub keep-less : (hard d e : ℕ) (planes : List Plane) → d ≤ e → KeepBounds hard e planes → KeepBounds hard d planes
+keep-less hard d e planes le bounds = λ k x l. relieved-less (get_or (drop hard planes) k x) d e le (bounds k x l)
 
 whole_length-le : (plane : Plane) → FitsPlane plane → whole_length plane.n ≤ 2 ^ 32
-whole_length-le plane fits = ⊎_elim
+whole_length-le plane fits =
+    ⊎_elim
     (λ above.
     let first = ceil_root_first (unsigned_abs (square plane.n)) (2 ^ 32) above in
     absurd (let small = fits.normal in omega (arith, ints)))
     (λ below. below)
     (cases_lt (2 ^ 32) (whole_length plane.n))
 
-relieved-fits : (plane : Plane) (d : ℕ) → HasRoom plane → d < 2 ^ 18 → FitsPlane (relieved_of plane d)
-relieved-fits plane d h small =
+room-relieved : (plane : Plane) (d : ℕ) → HasRoom plane → d < 2 ^ 18 → CanBeRelieved plane d
+room-relieved plane d h small =
     let short = whole_length-le plane h.fits in
     let moved : d * whole_length plane.n ≤ 2 ^ 18 * 2 ^ 32 = mul-le-mul (let le : d ≤ 2 ^ 18 = omega arith in le) short in
-    record { nonzero = h.fits.nonzero; normal = h.fits.normal; offset = (let room = h.room in omega (arith, ints)) }
+    let size = h.room in
+    omega (arith, ints)
 
--- half-planes with room keep their bounds at each relief below 2^18
+-- half-planes with room can be relieved by each number below 2^18
 pub keep-room : (hard relief : ℕ) (planes : List Plane) → relief < 2 ^ 18 → All HasRoom planes → KeepBounds hard relief planes
-keep-room hard relief planes small room =
-    All-map FitsPlane (λ plane. relieved_of plane relief) (drop hard planes)
-    (λ k e l. relieved-fits _ relief (All-drop HasRoom hard planes room k e l) small)
+keep-room hard relief planes small room = λ k e l. room-relieved (get_or (drop hard planes) k e) relief (All-drop HasRoom hard planes room k e l) small
+
+pub keep-pair : (hard relief : ℕ) (first second : Plane) → relief < 2 ^ 18 → HasRoom first → HasRoom second → KeepBounds hard relief (first ∷ second ∷ [])
+keep-pair hard relief first second small h k = keep-room hard relief (first ∷ second ∷ []) small
+    (All-cons HasRoom first (second ∷ []) h (All-cons HasRoom second [] k (λ i e l. absurd (omega arith))))

@@ -1,24 +1,25 @@
 // Lists of half-planes of which the first few are hard, and the others are relieved.
 ghost use Rattle.std.specs.Prelude.{◌≡◌, ◌<◌, ◌≤◌, ◌↔◌, length, slice_index_or, IsTrue};
-ghost use Rattle.fixed_vec.specs.HalfPlane.{FitsPlane, relieved_of};
+ghost use Rattle.fixed_vec.specs.HalfPlane.{relieved_of};
 ghost use Rattle.fixed_vec.specs.Meeting.{relieved_after};
 ghost use Rattle.fixed_vec.specs.Point.{IsIn};
-ghost use Rattle.planar_line.specs.Relief.{KeepBounds, no_plane};
+ghost use Rattle.planar_line.specs.Relief.{CanBeRelieved, KeepBounds, no_plane};
 
 use fixed_vec::{HalfPlane, Point, side};
 use std::cmp::Ordering;
 
 // The half-plane moved back by `relief` lengths of its normal.
 fn relieved(plane: &HalfPlane, relief: u32) -> HalfPlane
-    requires { FitsPlane (relieved_of plane.now relief) }
+    requires { CanBeRelieved plane.now relief }
     ensures { result ≡ relieved_of plane.now relief }
 {
     // The length of a normal takes a root, which a half-plane that isn't relieved can spare.
     if relief == 0 {
-        *plane
-    } else {
-        plane.relieved(relief)
+        return *plane;
     }
+    // The reader tells that the offset is below 2^53 in size.
+    let _c = plane.c();
+    plane.relieved(relief)
 }
 
 /// The half-plane at a place of the list: as it is among the first `hard`, and else relieved.

@@ -1,0 +1,9 @@
+pub mod Lengths
+pub mod Sizes
+pub mod Parts
+pub mod Regions
+pub mod Sized
+pub mod Legs
+pub mod RelativePlanes
+pub mod Shares
+mod Examples

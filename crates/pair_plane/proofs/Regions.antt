@@ -1,0 +1,38 @@
+-- What each region of a pair says of the discs.
+use Rattle.std.proofs.Common.{◌≡◌, ℕ, refl, Bool, true, false, cond, arith, ℤ, pos, ◌*ℤ◌, ◌≤ℤ◌, ◌<ℤ◌}
+use Rattle.std.proofs.lemmas.Int.{ints}
+use Rattle.std.specs.Prelude.{int_lt, ◌&&◌}
+use Rattle.fixed_vec.specs.Vector.{cross, dot, square}
+use Rattle.crowd_data.specs.declared.pair.Disc.{Disc}
+use Rattle.crowd_data.specs.declared.pair.Region.{Region}
+use Rattle.crowd_data.specs.declared.pair.Region.TheVariants.{Arc, Left, Right, Overlap}
+use Rattle.crowd_data.specs.Pairs.{from_cutoff, is_arc, is_overlap, joint_radius, offset, region_of}
+
+lt_true : (a b : ℤ) → int_lt a b ≡ true → a <ℤ b
+lt_true a b e = grind (arith, ints)
+
+lt_false : (a b : ℤ) → int_lt a b ≡ false → b ≤ℤ a
+lt_false a b e = grind (arith, ints)
+
+and_left : (a b : Bool) → (a && b) ≡ true → a ≡ true
+and_left true b e = refl
+and_left false b e = e
+
+-- the discs don't overlap
+abbrev pub NoOverlap : Disc → Disc → Type 0
+NoOverlap low high = (joint_radius low high *ℤ joint_radius low high) ≤ℤ square (offset low high)
+
+-- a fact of the region holds where it holds of each region that can be
+pub region_cases : (low high : Disc) (tau : ℕ) (P : Region → Type 0)
+    → P Overlap
+    → (dot (from_cutoff low high tau) (offset low high) <ℤ pos 0 → P Arc)
+    → (NoOverlap low high → P Left)
+    → (NoOverlap low high → P Right)
+    → P (region_of low high tau)
+region_cases low high tau P overlap arc left right = by (is_overlap low high) refl (is_arc low high tau) refl (int_lt (pos 0) (cross (offset low high) (from_cutoff low high tau)))
+  where
+    by : (a : Bool) → is_overlap low high ≡ a → (b : Bool) → is_arc low high tau ≡ b → (c : Bool) → P (cond a Overlap (cond b Arc (cond c Left Right)))
+    by true e b f c = overlap
+    by false e true f c = arc (lt_true _ _ (and_left _ _ f))
+    by false e false f true = left (lt_false _ _ e)
+    by false e false f false = right (lt_false _ _ e)

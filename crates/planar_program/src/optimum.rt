@@ -1,0 +1,70 @@
+// The common point of half-planes that is nearest to a whole point.
+ghost use Rattle.std.specs.Prelude.{◌↔◌, ◌<◌, ◌≤◌, length, slice_index_or, pos, ◌≤ℤ◌, IsNone, IfSome, IfNone};
+ghost use Rattle.fixed_vec.specs.Meeting.{IsEmpty, Meeting, Nearest, relieved_after};
+ghost use Rattle.fixed_vec.specs.Point.{Rational};
+ghost use Rattle.planar_line.specs.Border.{IsOnBorder, IsPreference, toward};
+ghost use Rattle.planar_line.specs.Relief.{KeepBounds, no_plane};
+ghost use Rattle.planar_program.specs.Taken.{BestOnBorder, IsOnTaken, IsTaken};
+
+use fixed_vec::{HalfPlane, Point, V2};
+use planar_line::{Span, contains_at, plane_at};
+
+// The best point on the border of the half-plane at `place`, among those in each half-plane taken: the
+// soft ones up to the place `soft_end`, and the hard ones up to `hard_end`.
+fn best_on_border(
+    planes: &[HalfPlane],
+    hard: usize,
+    relief: u32,
+    place: usize,
+    soft_end: usize,
+    hard_end: usize,
+    pref: V2,
+) -> Option<Point>
+    requires place { place < length planes.now }
+    requires hard { hard ≤ length planes.now }
+    requires soft_start { hard ≤ soft_end }
+    requires soft_end { soft_end ≤ length planes.now }
+    requires hard_end { hard_end ≤ length planes.now }
+    requires pref { IsPreference pref }
+    requires bounds { KeepBounds hard relief planes.now }
+    ensures best { IfSome result
+        (BestOnBorder (relieved_after hard relief planes.now) place hard soft_end hard_end pref) }
+    ensures none { IfNone result
+        ((v : Rational)
+        → IsOnTaken (relieved_after hard relief planes.now) place hard soft_end hard_end v → ⊥) }
+{
+    let border = plane_at(planes, hard, relief, place);
+    let span = Span::whole(&border)
+        .narrowed(planes, hard, relief, hard, soft_end)?
+        .narrowed(planes, hard, relief, 0, hard_end)?;
+    Some(span.nearest(pref))
+}
+
+/// The point nearest to `pref` among those in each half-plane of the list, if there are any. The first
+/// `hard` half-planes are taken as they are, and the others moved back by `relief` lengths of their normals.
+pub fn nearest(planes: &[HalfPlane], hard: usize, relief: u32, pref: V2) -> Option<Point>
+    requires hard { hard ≤ length planes.now }
+    requires pref { IsPreference pref }
+    requires bounds { KeepBounds hard relief planes.now }
+    ensures nearest { IfSome result (Nearest (relieved_after hard relief planes.now) pref) }
+    ensures toward { IfSome result
+        (λ p. (v : Rational) → Meeting (relieved_after hard relief planes.now) v
+        → toward pref p v ≤ℤ pos 0) }
+    ensures none { IsNone result ↔ IsEmpty (relieved_after hard relief planes.now) }
+{
+    let count = planes.len();
+    let mut best = Point::of(pref.x as i128, pref.y as i128, 1);
+    // The soft half-planes come first, since each that moves the best point looks at all before it, and
+    // the hard ones seldom move it. The order changes nothing in the result.
+    for place in hard..count {
+        if !contains_at(planes, hard, relief, place, &best) {
+            best = best_on_border(planes, hard, relief, place, place, 0, pref)?;
+        }
+    }
+    for place in 0..hard {
+        if !contains_at(planes, hard, relief, place, &best) {
+            best = best_on_border(planes, hard, relief, place, count, place, pref)?;
+        }
+    }
+    Some(best)
+}

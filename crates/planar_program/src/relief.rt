@@ -1,0 +1,58 @@
+// The least relief that leaves a common point.
+ghost use Rattle.std.specs.Prelude.{◌↔◌, ℕ, ◌<◌, ◌≤◌, length, take, IsNone, IfSome};
+ghost use Rattle.fixed_vec.specs.Meeting.{IsEmpty, Nearest, relieved_after};
+ghost use Rattle.planar_line.specs.Border.{IsPreference};
+ghost use Rattle.planar_line.specs.Relief.{KeepBounds};
+ghost use Rattle.planar_program.specs.Met.{IsMet};
+
+use crate::optimum::nearest;
+use fixed_vec::{HalfPlane, Point, V2};
+
+/// The greatest relief that is tried.
+pub const GREATEST_RELIEF: u32 = 262_143;
+
+/// A relief of the soft half-planes, in units of velocity, and the point nearest to a whole point that
+/// it leaves.
+#[derive(Clone, Copy)]
+pub struct Relief {
+    pub relief: u32,
+    pub point: Point,
+}
+
+/// The least relief of the half-planes after the first `hard` that leaves a point in each half-plane of
+/// the list, and the nearest such point to `pref`. None comes exactly where the hard half-planes have no
+/// common point.
+pub fn least_relief(planes: &[HalfPlane], hard: usize, pref: V2) -> Option<Relief>
+    requires hard { hard ≤ length planes.now }
+    requires pref { IsPreference pref }
+    requires bounds { KeepBounds hard GREATEST_RELIEF planes.now }
+    requires enough { IsMet (take hard planes.now) → IsMet (relieved_after hard GREATEST_RELIEF planes.now) }
+    ensures nearest { IfSome result
+        (λ r. Nearest (relieved_after hard r.relief planes.now) pref r.point) }
+    ensures least { IfSome result
+        (λ r. (d : ℕ) → d < r.relief → IsEmpty (relieved_after hard d planes.now)) }
+    ensures greatest { IfSome result (λ r. r.relief ≤ GREATEST_RELIEF) }
+    ensures none { IsNone result ↔ IsEmpty (take hard planes.now) }
+{
+    // Nearly always no relief is needed.
+    if let Some(point) = nearest(planes, hard, 0, pref) {
+        return Some(Relief { relief: 0, point });
+    }
+    let mut low = 1;
+    let mut high = GREATEST_RELIEF;
+    let mut point = nearest(planes, hard, high, pref)?;
+    while low < high {
+        let relief = (low + high) / 2;
+        match nearest(planes, hard, relief, pref) {
+            Some(nearer) => {
+                point = nearer;
+                high = relief;
+            }
+            None => low = relief + 1,
+        }
+    }
+    Some(Relief {
+        relief: high,
+        point,
+    })
+}

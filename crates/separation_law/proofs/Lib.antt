@@ -1,0 +1,5 @@
+pub mod Ways
+pub mod FarPairs
+pub mod Borders
+pub mod Shares
+pub mod Pairs

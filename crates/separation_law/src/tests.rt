@@ -1,0 +1,55 @@
+// Each law is called once, at a pair that meets what it needs.
+use crate::{far_pair, pair_apart, pair_apart_at_end};
+use crowd_data::{Disc, Place};
+use fixed_vec::V2;
+
+#[test]
+fn laws_hold_of_worked_pairs() {
+    // Head on and far off: both may go on as they do.
+    let low = Disc {
+        pos: V2 { x: 0, y: 0 },
+        vel: V2 { x: 200, y: 0 },
+        radius: 500,
+    };
+    let high = Disc {
+        pos: V2 { x: 10000, y: 0 },
+        vel: V2 { x: -200, y: 0 },
+        radius: 500,
+    };
+    pair_apart(&low, &high, 10, low.vel, high.vel);
+
+    // Nearer, and not quite head on: the left leg. One turns left, the other one all but stops.
+    let near = Disc {
+        pos: V2 { x: 3000, y: 0 },
+        vel: V2 { x: -200, y: -1 },
+        radius: 500,
+    };
+    pair_apart(&low, &near, 10, V2 { x: 0, y: 100 }, V2 { x: 2, y: 0 });
+
+    // In one place: 500 units to each side are enough.
+    let still = Disc {
+        pos: V2 { x: 0, y: 0 },
+        vel: V2 { x: 0, y: 0 },
+        radius: 500,
+    };
+    pair_apart_at_end(
+        &still,
+        &still,
+        10,
+        V2 { x: 500, y: 0 },
+        V2 { x: -500, y: 0 },
+    );
+
+    // One unit past being near: they may run at each other.
+    let a = Place {
+        pos: V2 { x: 0, y: 0 },
+        radius: 500,
+        speed: 400,
+    };
+    let b = Place {
+        pos: V2 { x: 0, y: 1801 },
+        radius: 500,
+        speed: 400,
+    };
+    far_pair(&a, &b, V2 { x: 0, y: 400 }, V2 { x: 0, y: -400 });
+}
