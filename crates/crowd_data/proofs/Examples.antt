@@ -1,10 +1,9 @@
 -- The definitions on numbers worked out by hand.
-use Rattle.std.proofs.Common.{◌≡◌, ◌≤◌, ◌<◌, ◌-◌, ◌*◌, List, [], ◌∷◌, ℕ, refl, sym, ap, arith, pos, negsuc, mul-le-mul, true, false}
+use Rattle.std.proofs.Common.{◌≡◌, ◌≤◌, ◌<◌, ◌-◌, ◌*◌, List, [], ◌∷◌, ℕ, refl, arith, pos, negsuc, mul-le-mul}
 use Rattle.exact_algebra.specs.Numbers.{ceil_root}
 use Rattle.exact_algebra.proofs.Rounding.{ceil_root_is}
 use Rattle.fixed_vec.specs.declared.vector.V2.{V2}
 use Rattle.fixed_vec.specs.Vector.{zero_vector}
-use Rattle.crowd_data.specs.declared.agent.Agent.{Agent}
 use Rattle.crowd_data.specs.declared.frame.Body.{Body}
 use Rattle.crowd_data.specs.declared.frame.Mark.TheVariants.{Start}
 use Rattle.crowd_data.specs.declared.pair.Place.{Place}

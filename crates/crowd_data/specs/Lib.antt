@@ -8,3 +8,4 @@ pub mod Advice
 pub mod Run
 pub mod Safety
 pub mod Headings
+pub mod SafeSteps
