@@ -1,5 +1,5 @@
 // Rings of points round the origin, and the polygon of a speed.
-ghost use Rattle.std.specs.Prelude.{◌≡◌, ◌<◌, ◌≤◌, ◌^◌, All, Some, slice_get, ℤ, pos, ◌*ℤ◌, ◌≤ℤ◌, ◌<ℤ◌, IsTrue, unsigned_abs};
+ghost use Rattle.std.specs.Prelude.{◌≡◌, ◌<◌, ◌≤◌, ◌^◌, All, Some, slice_get, pos, ◌*ℤ◌, ◌≤ℤ◌, ◌<ℤ◌, IsTrue, unsigned_abs};
 ghost use Rattle.exact_algebra.specs.Numbers.{ceil};
 ghost use Rattle.fixed_vec.specs.Point.{IsIn, rounded_of};
 ghost use Rattle.fixed_vec.specs.Vector.{IsBelow, dot, square};
