@@ -1,16 +1,13 @@
 -- By the plain definitions, the run of at most one agent of the plain form is the one that is written.
-use Rattle.std.proofs.Common.{◌≡◌, ◌∙◌, ◌<◌, ◌≤◌, ◌+◌, ◌++◌, List, [], ◌∷◌, ℕ, zero, suc, refl, sym, ap, subst, arith, Bool, true, false, cond, ◌&&◌, Some, None, option_map, length, append_assoc, int_le}
-use Rattle.std.specs.List.{All, list_all}
+use Rattle.std.proofs.Common.{◌≡◌, ◌∙◌, ◌<◌, ◌≤◌, ◌+◌, ◌++◌, List, [], ◌∷◌, ℕ, zero, suc, refl, sym, ap, subst, arith, Bool, true, false, cond, ◌&&◌, Some, None, option_map, length, append_assoc}
+use Rattle.std.specs.List.{All}
 use Rattle.std.specs.declared.option.Option.{Option}
 use Rattle.std.proofs.lemmas.List.Elements.{All-cons}
-use Rattle.exact_algebra.proofs.Tests.{both_of}
 use Rattle.fixed_vec.specs.declared.vector.V2.{V2}
-use Rattle.fixed_vec.specs.Vector.{dot}
-use Rattle.fixed_vec.specs.HalfPlane.{Plane}
 use Rattle.crowd_data.specs.declared.agent.Agent.{Agent}
 use Rattle.crowd_data.specs.declared.frame.Body.{Body}
+use Rattle.crowd_data.specs.declared.frame.Mark.{Mark}
 use Rattle.crowd_data.specs.Limits.{IsAgent}
-use Rattle.crowd_data.specs.RingPlanes.{ring_planes}
 use Rattle.crowd_data.specs.Run.{Follow, IsMoved, Snapshot, body_at, scripts_from, scripts_of, standing, start_of, starting_bodies, starting_body}
 use Rattle.crowd_data.specs.Scenario.{IsValid, Parts}
 use Rattle.frame_text.specs.Lines.{end_line}
@@ -18,118 +15,126 @@ use Rattle.frame_text.specs.Transcript.{IsTranscript, frame_text, frames_text, l
 use Rattle.scenario_read.specs.Records.{Record, records_of}
 use Rattle.scenario_read.specs.Fields.{count_at}
 use Rattle.scenario_read.specs.Plain.{agent_in, agents_in, is_agent, is_header, is_steps, plain_in, plain_of, plain_scenario}
-use Rattle.orca_cli.specs.Alone.{HasCome, IsSmall, frames_behind, moved_body, moved_frame, text_alone, text_behind}
-use Rattle.orca_cli.specs.Output.{IsOutput, built_in, is_in_polygon}
+use Rattle.orca_cli.specs.Alone.{AdvisedAlone, HasCome, IsSmall, frames_behind, moved_body, moved_frame, text_alone, text_behind}
+use Rattle.orca_cli.specs.Output.{IsOutput}
 use Rattle.orca_cli.proofs.AloneMoves.{moves_alone}
 
--- ---- the text
+module _ (vel : V2) (mark : Mark) where
+  -- ---- the text
 
-module _ (n : ℕ) (agents : List Agent) where
-  -- the frames with their lists of posts, which are empty, and the line at the end
-  text_is : (left k : ℕ) (f : Snapshot)
-      → frames_text (scripts_from (plain_scenario n agents) k left) (frames_behind left f) ++ end_line (last_number (f ∷ frames_behind left f)) ≡ text_behind left f
-  text_is zero k f = refl
-  text_is (suc left) k f =
-      let g = moved_frame f in
-      append_assoc (frame_text g []) (frames_text (scripts_from (plain_scenario n agents) (k + 1) left) (frames_behind left g)) (end_line (last_number (g ∷ frames_behind left g)))
-      ∙ ap (λ t. frame_text g [] ++ t) (text_is left (k + 1) g)
+  module _ (n : ℕ) (agents : List Agent) where
+    -- the frames with their lists of posts, which are empty, and the line at the end
+    text_is : (left k : ℕ) (f : Snapshot)
+        → frames_text (scripts_from (plain_scenario n agents) k left) (frames_behind vel mark left f) ++ end_line (last_number (f ∷ frames_behind vel mark left f)) ≡ text_behind vel mark left f
+    text_is zero k f = refl
+    text_is (suc left) k f =
+        let g = moved_frame vel mark f in
+        append_assoc (frame_text g []) (frames_text (scripts_from (plain_scenario n agents) (k + 1) left) (frames_behind vel mark left g)) (end_line (last_number (g ∷ frames_behind vel mark left g)))
+        ∙ ap (λ t. frame_text g [] ++ t) (text_is left (k + 1) g)
 
-  whole_text : transcript_text (plain_scenario n agents) (scripts_of (plain_scenario n agents)) (start_of (plain_scenario n agents) ∷ frames_behind n (start_of (plain_scenario n agents)))
-      ≡ text_alone (plain_scenario n agents)
-  whole_text =
-      let s = plain_scenario n agents in
-      let first = start_of s in
-      let frames = frames_text (scripts_from s 1 n) (frames_behind n first) in
-      let last = end_line (last_number (first ∷ frames_behind n first)) in
-      append_assoc (scenario_text s) (frame_text first [] ++ frames) last
-      ∙ ap (λ t. scenario_text s ++ t) (append_assoc (frame_text first []) frames last ∙ ap (λ t. frame_text first [] ++ t) (text_is n 1 first))
+    whole_text : transcript_text (plain_scenario n agents) (scripts_of (plain_scenario n agents))
+        (start_of (plain_scenario n agents) ∷ frames_behind vel mark n (start_of (plain_scenario n agents)))
+        ≡ text_alone vel mark (plain_scenario n agents)
+    whole_text =
+        let s = plain_scenario n agents in
+        let first = start_of s in
+        let frames = frames_text (scripts_from s 1 n) (frames_behind vel mark n first) in
+        let last = end_line (last_number (first ∷ frames_behind vel mark n first)) in
+        append_assoc (scenario_text s) (frame_text first [] ++ frames) last
+        ∙ ap (λ t. scenario_text s ++ t) (append_assoc (frame_text first []) frames last ∙ ap (λ t. frame_text first [] ++ t) (text_is n 1 first))
 
--- ---- the frames
+  -- ---- the frames
 
--- nobody moves
-module _ (n : ℕ) where
-  follow_none : (left k : ℕ) → k + left ≡ n
-      → Follow (plain_scenario n []) (record { number = k; bodies = [] }) (scripts_from (plain_scenario n []) (k + 1) left) (frames_behind left (record { number = k; bodies = [] }))
-  follow_none zero k e = tt
-  follow_none (suc left) k e = (
-    record { below = omega arith; number = refl; bodies = refl; moved = λ who h. absurd (omega arith) },
-    follow_none left (k + 1) (omega arith),
-  )
+  -- nobody moves
+  module _ (n : ℕ) where
+    follow_none : (left k : ℕ) → k + left ≡ n
+        → Follow (plain_scenario n []) (record { number = k; bodies = [] }) (scripts_from (plain_scenario n []) (k + 1) left) (frames_behind vel mark left (record { number = k; bodies = [] }))
+    follow_none zero k e = tt
+    follow_none (suc left) k e = (
+      record { below = omega arith; number = refl; bodies = refl; moved = λ who h. absurd (omega arith) },
+      follow_none left (k + 1) (omega arith),
+    )
 
--- one agent moves with its preferred velocity
-module _ (n : ℕ) (agent : Agent) (t : is_in_polygon agent ≡ true) where
-  still_in : (body : Body) → body.pref ≡ agent.pref → is_in_polygon (standing agent body) ≡ true
-  still_in body e = subst (λ (v : V2). list_all (λ (plane : Plane). int_le plane.c (dot plane.n v)) (ring_planes agent.speed) ≡ true) (sym e) t
+  -- one agent moves by its advice
+  module _ (n : ℕ) (agent : Agent) (advised : AdvisedAlone agent.speed agent.pref vel mark) where
+    still_advised : (body : Body) → body.pref ≡ agent.pref → AdvisedAlone agent.speed body.pref vel mark
+    still_advised body e = subst (λ (pref : V2). AdvisedAlone agent.speed pref vel mark) (sym e) advised
 
-  moved_one : (body : Body) → body.pref ≡ agent.pref → (who : ℕ) → who < 1
-      → IsMoved (plain_scenario n (agent ∷ [])) (standing agent body ∷ []) who (body_at (body ∷ []) who) (body_at (moved_body body ∷ []) who)
-  moved_one body e zero h = record { agent = refl; pref = refl; advice = moves_alone (standing agent body) (still_in body e); pos = refl }
-  moved_one body e (suc who) h = absurd (omega arith)
+    moved_one : (body : Body) → body.pref ≡ agent.pref → (who : ℕ) → who < 1
+        → IsMoved (plain_scenario n (agent ∷ [])) (standing agent body ∷ []) who (body_at (body ∷ []) who) (body_at (moved_body vel mark body ∷ []) who)
+    moved_one body e zero h = record { agent = refl; pref = refl; advice = moves_alone (standing agent body) vel mark (still_advised body e); pos = refl }
+    moved_one body e (suc who) h = absurd (omega arith)
 
-  follow_one : (left k : ℕ) (body : Body) → k + left ≡ n → body.pref ≡ agent.pref
-      → Follow (plain_scenario n (agent ∷ [])) (record { number = k; bodies = body ∷ [] }) (scripts_from (plain_scenario n (agent ∷ [])) (k + 1) left) (frames_behind left (record { number = k; bodies = body ∷ [] }))
-  follow_one zero k body e p = tt
-  follow_one (suc left) k body e p = (
-    record { below = omega arith; number = refl; bodies = refl; moved = moved_one body p },
-    follow_one left (k + 1) (moved_body body) (omega arith) p,
-  )
+    follow_one : (left k : ℕ) (body : Body) → k + left ≡ n → body.pref ≡ agent.pref
+        → Follow (plain_scenario n (agent ∷ [])) (record { number = k; bodies = body ∷ [] }) (scripts_from (plain_scenario n (agent ∷ [])) (k + 1) left)
+        (frames_behind vel mark left (record { number = k; bodies = body ∷ [] }))
+    follow_one zero k body e p = tt
+    follow_one (suc left) k body e p = (
+      record { below = omega arith; number = refl; bodies = refl; moved = moved_one body p },
+      follow_one left (k + 1) (moved_body vel mark body) (omega arith) p,
+    )
 
--- ---- the scenarios of the plain form
+  -- ---- the scenarios of the plain form
 
--- what holds of a scenario of the plain form with its preferred velocities in the polygon
-pub record IsLone (scenario : Parts) : Type 0 where
-  pub transcript : IsTranscript scenario (scripts_of scenario) (text_alone scenario)
-  pub one : length scenario.agents ≤ 1
+  -- what holds of a scenario of the plain form whose agent has this advice
+  pub record IsLone (scenario : Parts) : Type 0 where
+    pub transcript : IsTranscript scenario (scripts_of scenario) (text_alone vel mark scenario)
+    pub one : length scenario.agents ≤ 1
 
-lone_none : (n : ℕ) → IsLone (plain_scenario n [])
-lone_none n = record {
-  transcript = (start_of (plain_scenario n []) ∷ frames_behind n (start_of (plain_scenario n [])), (refl, follow_none n n 0 (omega arith)), sym (whole_text n []));
-  one = omega arith;
-}
+  lone_none : (n : ℕ) → IsLone (plain_scenario n [])
+  lone_none n = record {
+    transcript =
+        (start_of (plain_scenario n []) ∷ frames_behind vel mark n (start_of (plain_scenario n [])), (refl, follow_none n n 0 (omega arith)), sym (whole_text n []));
+    one = omega arith;
+  }
 
-lone_one : (n : ℕ) (agent : Agent) → is_in_polygon agent ≡ true → IsLone (plain_scenario n (agent ∷ []))
-lone_one n agent t = record {
-  transcript =
-      (start_of (plain_scenario n (agent ∷ [])) ∷ frames_behind n (start_of (plain_scenario n (agent ∷ []))), (refl, follow_one n agent t n 0 _ (omega arith) refl), sym (whole_text n (agent ∷ [])));
-  one = omega arith;
-}
+  lone_one : (n : ℕ) (agent : Agent) → AdvisedAlone agent.speed agent.pref vel mark → IsLone (plain_scenario n (agent ∷ []))
+  lone_one n agent advised = record {
+    transcript = (
+      start_of (plain_scenario n (agent ∷ [])) ∷ frames_behind vel mark n (start_of (plain_scenario n (agent ∷ []))),
+      (refl, follow_one n agent advised n 0 _ (omega arith) refl),
+      sym (whole_text n (agent ∷ [])),
+    );
+    one = omega arith;
+  }
 
-lone_if : (n : ℕ) (agents : List Agent) (rest : List Record) → agents_in rest ≡ Some agents → list_all is_in_polygon agents ≡ true → IsLone (plain_scenario n agents)
-lone_if n [] rest e t = lone_none n
-lone_if n (agent ∷ []) rest e t = lone_one n agent (both_of _ _ t).0
-lone_if n (agent ∷ next ∷ others) rest e t = absurd (not_two rest e)
-  where
-    by : (r : Record) (b : Bool) → cond b (Some (agent_in r ∷ [])) None ≡ Some (agent ∷ next ∷ others) → ⊥
-    by r true e = cc e
-    by r false e = cc e
+  -- the one agent, if there is one, has this advice
+  abbrev pub IsAdvisedOnly : List Agent → Type 0
+  IsAdvisedOnly agents = (agent : Agent) → agents ≡ agent ∷ [] → AdvisedAlone agent.speed agent.pref vel mark
 
-    not_two : (rest : List Record) → agents_in rest ≡ Some (agent ∷ next ∷ others) → ⊥
-    not_two [] e = cc e
-    not_two (r ∷ []) e = by r (is_agent r) e
-    not_two (r ∷ q ∷ rest) e = cc e
+  lone_if : (n : ℕ) (agents : List Agent) (rest : List Record) → agents_in rest ≡ Some agents → IsAdvisedOnly agents → IsLone (plain_scenario n agents)
+  lone_if n [] rest e t = lone_none n
+  lone_if n (agent ∷ []) rest e t = lone_one n agent (t agent refl)
+  lone_if n (agent ∷ next ∷ others) rest e t = absurd (not_two rest e)
+    where
+      by : (r : Record) (b : Bool) → cond b (Some (agent_in r ∷ [])) None ≡ Some (agent ∷ next ∷ others) → ⊥
+      by r true e = cc e
+      by r false e = cc e
 
--- the records of the plain form
-lone_of : (rows : List Record) (scenario : Parts) → plain_of rows ≡ Some scenario → list_all is_in_polygon scenario.agents ≡ true → IsLone scenario
-lone_of [] scenario e t = cc e
-lone_of (header ∷ []) scenario e t = cc e
-lone_of (header ∷ steps ∷ rest) scenario e t = by (is_header header && is_steps steps) (agents_in rest) refl e
-  where
-    by : (b : Bool) (agents : Option (List Agent)) → agents_in rest ≡ agents → cond b (option_map (plain_scenario (count_at steps 1)) agents) None ≡ Some scenario → IsLone scenario
-    by true None f g = cc g
-    by true (Some agents) f g =
-        let is : plain_scenario (count_at steps 1) agents ≡ scenario = cc g in
-        subst IsLone is (lone_if (count_at steps 1) agents rest f (subst (λ (s : Parts). list_all is_in_polygon s.agents ≡ true) (sym is) t))
-    by false agents f g = cc g
+      not_two : (rest : List Record) → agents_in rest ≡ Some (agent ∷ next ∷ others) → ⊥
+      not_two [] e = cc e
+      not_two (r ∷ []) e = by r (is_agent r) e
+      not_two (r ∷ q ∷ rest) e = cc e
 
--- bytes of a form that is built: their scenario, and its whole transcript
-pub lone_built : (bytes : List ℕ) (scenario : Parts) → plain_in bytes ≡ Some scenario → list_all is_in_polygon scenario.agents ≡ true → IsLone scenario
-lone_built bytes scenario e t = lone_of (records_of bytes) scenario e t
+  -- the records of the plain form
+  lone_of : (rows : List Record) (scenario : Parts) → plain_of rows ≡ Some scenario → IsAdvisedOnly scenario.agents → IsLone scenario
+  lone_of [] scenario e t = cc e
+  lone_of (header ∷ []) scenario e t = cc e
+  lone_of (header ∷ steps ∷ rest) scenario e t = by (is_header header && is_steps steps) (agents_in rest) refl e
+    where
+      by : (b : Bool) (agents : Option (List Agent)) → agents_in rest ≡ agents → cond b (option_map (plain_scenario (count_at steps 1)) agents) None ≡ Some scenario → IsLone scenario
+      by true None f g = cc g
+      by true (Some agents) f g =
+          let is : plain_scenario (count_at steps 1) agents ≡ scenario = cc g in
+          subst IsLone is (lone_if (count_at steps 1) agents rest f (subst (λ (s : Parts). IsAdvisedOnly s.agents) (sym is) t))
+      by false agents f g = cc g
 
-pub built_is : (bytes : List ℕ) (scenario : Parts) (b : Bool) → plain_in bytes ≡ Some scenario → list_all is_in_polygon scenario.agents ≡ b → built_in bytes ≡ cond b (Some scenario) None
-built_is bytes scenario b e t = rw (e, t) refl
+  -- the scenario of bytes of the plain form, and its whole transcript
+  pub lone_plain : (bytes : List ℕ) (scenario : Parts) → plain_in bytes ≡ Some scenario → IsAdvisedOnly scenario.agents → IsLone scenario
+  lone_plain bytes scenario e t = lone_of (records_of bytes) scenario e t
 
-pub output_is : (bytes : List ℕ) (scenario : Parts) → plain_in bytes ≡ Some scenario → list_all is_in_polygon scenario.agents ≡ true → IsOutput bytes (text_alone scenario)
-output_is bytes scenario e t = (scenario, built_is bytes scenario true e t, (lone_built bytes scenario e t).transcript)
+  pub output_is : (bytes : List ℕ) (scenario : Parts) → plain_in bytes ≡ Some scenario → IsAdvisedOnly scenario.agents → IsOutput bytes (text_alone vel mark scenario)
+  output_is bytes scenario e t = (scenario, e, (lone_plain bytes scenario e t).transcript)
 
 -- the first frame of a valid scenario of at most one agent
 pub small_start : (scenario : Parts) → IsValid scenario → length scenario.agents ≤ 1 → IsSmall (start_of scenario)

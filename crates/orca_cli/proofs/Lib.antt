@@ -2,4 +2,4 @@ mod TextBehind
 mod AloneMoves
 mod AloneRuns
 mod Outputs
-mod PolygonTests
+mod PolygonPoints

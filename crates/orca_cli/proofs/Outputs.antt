@@ -1,16 +1,17 @@
 -- What is known of the output once all bytes were read.
-use Rattle.std.proofs.Common.{◌≡◌, ◌≤◌, ℕ, List, length, true, false, Result, Ok, Err, IfSome, Some, None, refl}
-use Rattle.std.specs.List.{list_all}
+use Rattle.std.proofs.Common.{◌≡◌, ◌≤◌, ℕ, List, length, true, false, Result, Ok, Err, IfSome, Some}
 use Rattle.std.specs.declared.option.Option.{Option}
 use Rattle.std.specs.Result.{is_err}
-use Rattle.std.specs.Io.KnownBytes.{Appends, Consumes, IsAtEnd, Keeps}
+use Rattle.std.specs.Io.KnownBytes.{Appends, Consumes, IsAtEnd}
 use Rattle.std.proofs.KnownBytes.{Consumes-whole}
 use Rattle.outside_io.specs.Causes.{AppendsPrefix, HasCause, Rose, Wrote}
+use Rattle.fixed_vec.specs.declared.vector.V2.{V2}
+use Rattle.crowd_data.specs.declared.frame.Mark.{Mark}
 use Rattle.crowd_data.specs.Scenario.{Parts}
 use Rattle.scenario_read.specs.Plain.{plain_in}
 use Rattle.orca_cli.specs.Alone.{text_alone}
-use Rattle.orca_cli.specs.Output.{IsOutput, built_in, is_in_polygon}
-use Rattle.orca_cli.proofs.AloneRuns.{built_is, output_is}
+use Rattle.orca_cli.specs.Output.{IsOutput}
+use Rattle.orca_cli.proofs.AloneRuns.{IsAdvisedOnly, output_is}
 
 wrote_ok : {T E : Type 0} (a b : Option (List ℕ)) (r : Result T E) (text : List ℕ) → is_err r ≡ false → Wrote a b r text → Appends a b text
 wrote_ok a b (Ok v) text fine w = w
@@ -24,26 +25,17 @@ pub rose_err : {T E : Type 0} (before now : ℕ) (r : Result T E) → is_err r �
 rose_err before now (Ok v) failed h = cc failed
 rose_err before now (Err e) failed h = h.failed
 
-pub keeps_same : (a : Option (List ℕ)) → Keeps a a
-keeps_same None = tt
-keeps_same (Some xs) = refl
+-- all the bytes were read, and they stand for a scenario of the plain form whose agent has this advice
+module _ (vel : V2) (mark : Mark) (left after : Option (List ℕ)) (bytes : List ℕ) (limit : ℕ) (all : Consumes left after bytes) (end : IsAtEnd after) (short : length bytes ≤ limit) (scenario : Parts) (plain : plain_in bytes ≡ Some scenario)
+    (advised : IsAdvisedOnly vel mark scenario.agents) {T E : Type 0} (a b : Option (List ℕ)) (r : Result T E) (w : Wrote a b r (text_alone vel mark scenario)) where
+  -- its output was written
+  pub written : is_err r ≡ false → IfSome left (λ whole. (length whole ≤ limit) × ((text : List ℕ) × IsOutput whole text × Appends a b text))
+  written fine =
+      Consumes-whole left after bytes (λ whole. (length whole ≤ limit) × ((text : List ℕ) × IsOutput whole text × Appends a b text)) all end
+      (short, (text_alone vel mark scenario, output_is vel mark bytes scenario plain advised, wrote_ok a b r _ fine w))
 
--- all the bytes were read, and they stand for a scenario of the plain form
-module _ (left after : Option (List ℕ)) (bytes : List ℕ) (limit : ℕ) (all : Consumes left after bytes) (end : IsAtEnd after) (short : length bytes ≤ limit) (scenario : Parts) (plain : plain_in bytes ≡ Some scenario) where
-  -- its form isn't built
-  pub not_built : list_all is_in_polygon scenario.agents ≡ false → IfSome left (λ whole. (length whole ≤ limit) × (built_in whole ≡ None))
-  not_built out =
-      Consumes-whole left after bytes (λ whole. (length whole ≤ limit) × (built_in whole ≡ None)) all end (short, built_is bytes scenario false plain out)
-
-  module _ {T E : Type 0} (a b : Option (List ℕ)) (r : Result T E) (inside : list_all is_in_polygon scenario.agents ≡ true) (w : Wrote a b r (text_alone scenario)) where
-    -- its output was written
-    pub written : is_err r ≡ false → IfSome left (λ whole. (length whole ≤ limit) × ((text : List ℕ) × IsOutput whole text × Appends a b text))
-    written fine =
-        Consumes-whole left after bytes (λ whole. (length whole ≤ limit) × ((text : List ℕ) × IsOutput whole text × Appends a b text)) all end
-        (short, (text_alone scenario, output_is bytes scenario plain inside, wrote_ok a b r _ fine w))
-
-    -- a prefix of its output was written
-    pub cut_short : is_err r ≡ true → IfSome left (λ whole. (length whole ≤ limit) × ((text : List ℕ) × IsOutput whole text × AppendsPrefix a b text))
-    cut_short failed =
-        Consumes-whole left after bytes (λ whole. (length whole ≤ limit) × ((text : List ℕ) × IsOutput whole text × AppendsPrefix a b text)) all end
-        (short, (text_alone scenario, output_is bytes scenario plain inside, wrote_err a b r _ failed w))
+  -- a prefix of its output was written
+  pub cut_short : is_err r ≡ true → IfSome left (λ whole. (length whole ≤ limit) × ((text : List ℕ) × IsOutput whole text × AppendsPrefix a b text))
+  cut_short failed =
+      Consumes-whole left after bytes (λ whole. (length whole ≤ limit) × ((text : List ℕ) × IsOutput whole text × AppendsPrefix a b text)) all end
+      (short, (text_alone vel mark scenario, output_is vel mark bytes scenario plain advised, wrote_err a b r _ failed w))

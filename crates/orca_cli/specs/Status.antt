@@ -3,7 +3,8 @@ use Rattle.std.specs.Prelude.{◌≡◌, ℕ, ◌+◌, ◌<◌, ◌≤◌, true,
 use Rattle.std.specs.declared.option.Option.{Option}
 use Rattle.std.specs.Io.KnownBytes.{Appends, IsAtEnd, Keeps}
 use Rattle.outside_io.specs.Causes.{AppendsPrefix, Rose, Takes, TakesAtMost}
-use Rattle.orca_cli.specs.Output.{IsOutput, built_in}
+use Rattle.orca_cli.specs.Output.{IsOutput}
+use Rattle.scenario_read.specs.Plain.{plain_in}
 use Rattle.orca_cli.specs.Words.{is_run}
 use Rattle.orca_cli.specs.declared.status.Status.{Status}
 use Rattle.orca_cli.specs.declared.status.Status.TheVariants.{Done, NoMemory, Usage, ReadFault, WriteFault, TooLong, NotYet}
@@ -52,7 +53,7 @@ Holds words old new ReadFault =
 Holds words old new TooLong =
     (is_run words ≡ true) × IfSome old.left (λ bytes. input_limit < length bytes) × Takes old.left new.left (input_limit + 1) × IsUnwritten old new
 Holds words old new NotYet =
-    (is_run words ≡ true) × IfSome old.left (λ bytes. (length bytes ≤ input_limit) × (built_in bytes ≡ None)) × IsAtEnd new.left × IsUnwritten old new
+    (is_run words ≡ true) × IfSome old.left (λ bytes. (length bytes ≤ input_limit) × (plain_in bytes ≡ None)) × IsAtEnd new.left × IsUnwritten old new
 Holds words old new WriteFault =
     (is_run words ≡ true) × IfSome old.left (λ bytes. (length bytes ≤ input_limit) × WrotePart old new bytes) × IsAtEnd new.left × Rose old.writes new.writes
 Holds words old new NoMemory = (is_run words ≡ true) × TakesAtMost old.left new.left input_limit × IsUnwritten old new

@@ -1,6 +1,7 @@
 //! The top call: the words of a command, bytes in, bytes out, and a status.
 #![tactic(auto)]
 
+mod advice;
 mod alone;
 mod commands;
 mod polygon;

@@ -1,46 +1,20 @@
-// Whether agents can move with their preferred velocities.
-ghost use Rattle.std.specs.Prelude.{◌≡◌, All, int_le};
-ghost use Rattle.std.specs.List.{list_all};
-ghost use Rattle.fixed_vec.specs.Vector.{dot as dot_of};
-ghost use Rattle.crowd_data.specs.Limits.{IsAgent, IsVelocity};
-ghost use Rattle.orca_cli.specs.Output.{is_in_polygon};
+// The speed polygon of an agent, as a list of half-planes.
+ghost use Rattle.std.specs.Prelude.{◌≡◌, ◌≤◌, IfOk};
+ghost use Rattle.crowd_data.specs.RingPlanes.{ring_planes};
 
-use crowd_data::Agent;
-use fixed_vec::{HalfPlane, V2, dot};
+use fixed_vec::{HalfPlane, List, NoMemory};
 use hard_plane::Ring;
+use std::alloc::Global;
 
-// Whether a half-plane has a velocity.
-fn has(plane: &HalfPlane, vel: V2) -> bool
-    requires { IsVelocity vel }
-    ensures { result ≡ int_le plane.now.c (dot_of plane.now.n vel) }
-{
-    plane.c() <= dot(plane.n(), vel)
-}
-
-// Whether the preferred velocity is in the speed polygon.
-fn is_in_polygon(agent: &Agent) -> bool
-    requires { IsAgent agent.now }
-    ensures { result ≡ is_in_polygon agent.now }
+/// The half-planes between which the speed is kept, in order.
+pub(crate) fn speed_polygon(alloc: Global, speed: u32) -> Result<List<HalfPlane>, NoMemory>
+    requires { speed ≤ 16384 }
+    ensures { IfOk result (λ planes. planes.items ≡ ring_planes speed) }
 {
     let ring = Ring::<36>::plain();
+    let mut planes = List::with_room(alloc, 36)?;
     for k in 0..36usize {
-        let plane = ring.plane(k, agent.speed);
-        if !has(&plane, agent.pref) {
-            return false;
-        }
+        planes.push(ring.plane(k, speed));
     }
-    true
-}
-
-/// Whether each preferred velocity is in the speed polygon of its agent.
-pub(crate) fn are_in_polygon(agents: &[Agent]) -> bool
-    requires { All IsAgent agents.now }
-    ensures { result ≡ list_all is_in_polygon agents.now }
-{
-    for agent in agents {
-        if !is_in_polygon(agent) {
-            return false;
-        }
-    }
-    true
+    Ok(planes)
 }

@@ -186,13 +186,12 @@ fn input_is_one_byte_too_long(rt: HostRuntime) -> Result<(), Fail> {
 
 #[test]
 fn forms_that_are_not_built(rt: HostRuntime) -> Result<(), Fail> {
-    let inputs: [&[u8]; 8] = [
+    let inputs: [&[u8]; 7] = [
         b"",
         b"crowd,1\nsteps,",
         b"crowd,2\nsteps,1\n",
         b"crowd,1\nsteps,100001\n",
         b"crowd,1\nsteps,1\nagent,0,0,0,0,1000,0,500,66,15000,10,10,4\nagent,0,0,0,0,1000,0,500,66,15000,10,10,4\n",
-        b"crowd,1\nsteps,1\nagent,0,0,0,0,1000,0,500,66,15000,10,10,4\n",
         b"crowd,1\nsteps,1\nagent,0,0,0,0,300,0,0,400,15000,0,10,4\n",
         b"crowd,1\nsteps,1\nsegment,-2000,800,2000,800\n",
     ];
@@ -235,5 +234,55 @@ fn reads_records_as_csv_does(rt: HostRuntime) -> Result<(), Fail> {
     )?;
     assert_eq!(rt; ended.status, 0);
     assert_eq!(rt; ended.out.held().len(), 144);
+    Ok(())
+}
+
+// The body of frame 1 of an agent that is alone.
+fn first_step(alloc: Global, agent: &[u8], line: &[u8]) -> Result<bool, Fail> {
+    let mut input = bytes_of(alloc, b"crowd,1\nsteps,1\n")?;
+    for byte in agent {
+        input.reserve(1)?;
+        input.push(*byte);
+    }
+    let ended = run_on(alloc, &["run"], input, NONE)?;
+    Ok(ended.status == 0 && ended.out.held().ends_with(line))
+}
+
+#[test]
+fn corner_of_the_polygon(rt: HostRuntime) -> Result<(), Fail> {
+    let agent: &[u8] = b"agent,0,0,0,0,1000,0,500,66,15000,10,10,4\n";
+    let line: &[u8] = b"frame,1\nbody,0,65,0,65,0,1000,0,feasible,0\nend,1\n";
+    assert_eq!(rt; first_step(rt.alloc(), agent, line)?, true);
+    Ok(())
+}
+
+#[test]
+fn polygon_is_one_point(rt: HostRuntime) -> Result<(), Fail> {
+    let line: &[u8] = b"frame,1\nbody,0,0,0,0,0,5,0,feasible,0\nend,1\n";
+    let still: &[u8] = b"agent,0,0,0,0,5,0,500,0,15000,10,10,4\n";
+    assert_eq!(rt; first_step(rt.alloc(), still, line)?, true);
+    let slow: &[u8] = b"agent,0,0,0,0,5,0,500,1,15000,10,10,4\n";
+    assert_eq!(rt; first_step(rt.alloc(), slow, line)?, true);
+    Ok(())
+}
+
+#[test]
+fn largest_numbers(rt: HostRuntime) -> Result<(), Fail> {
+    let agent: &[u8] = b"agent,4194304,0,0,0,16384,0,32768,16384,65536,64,4096,4096\n";
+    let line: &[u8] = b"frame,1\nbody,0,4210687,0,16383,0,16384,0,feasible,0\nend,1\n";
+    assert_eq!(rt; first_step(rt.alloc(), agent, line)?, true);
+    Ok(())
+}
+
+// The second step is made from the first, and the preferred velocity of a slanted walk is kept.
+#[test]
+fn walks_on(rt: HostRuntime) -> Result<(), Fail> {
+    let ended = run(
+        rt.alloc(),
+        b"crowd,1\nsteps,2\nagent,-5,-2,9,9,180,-75,500,400,0,0,1,1\n",
+    )?;
+    let line: &[u8] =
+        b"frame,1\nbody,0,175,-77,180,-75,180,-75,feasible,0\nframe,2\nbody,0,355,-152,180,-75,180,-75,feasible,0\nend,2\n";
+    assert_eq!(rt; ended.out.held().ends_with(line), true);
     Ok(())
 }

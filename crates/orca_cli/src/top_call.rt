@@ -2,7 +2,8 @@
 ghost use Rattle.std.specs.Prelude.{◌≡◌, ◌≢◌, ◌↔◌, ◌⊎◌, ◌<◌, ℕ, List, map, length, IfSome, true, false, None};
 ghost use Rattle.std.specs.Io.KnownBytes.{Appends, IsAtEnd, Keeps};
 ghost use Rattle.outside_io.specs.Causes.{AppendsPrefix, Rose};
-ghost use Rattle.orca_cli.specs.Output.{IsOutput, built_in};
+ghost use Rattle.orca_cli.specs.Output.{IsOutput};
+ghost use Rattle.scenario_read.specs.Plain.{plain_in};
 ghost use Rattle.orca_cli.specs.Status.{Holds, Reports, code_of, input_limit};
 ghost use Rattle.orca_cli.specs.Words.{is_run};
 ghost use Rattle.orca_cli.specs.declared.status.Status.{Status};
@@ -48,8 +49,8 @@ pub fn orca<S: Source, T: Sink, E: Sink, G: Gate + Sync>(
     ensures too_long { result ≡ 6 → IfSome (S.left source.old) (λ bytes. input_limit < length bytes) }
     ensures not_longer { IfSome (S.left source.old) (λ bytes. input_limit < length bytes → is_run (map (λ w. w.now) words.now) ≡ true
         → (result ≡ 1) ⊎ (result ≡ 4) ⊎ (result ≡ 6)) }
-    ensures not_yet { result ≡ 8 → IfSome (S.left source.old) (λ bytes. built_in bytes ≡ None) }
-    ensures built { IfSome (S.left source.old) (λ bytes. built_in bytes ≡ None → is_run (map (λ w. w.now) words.now) ≡ true
+    ensures not_yet { result ≡ 8 → IfSome (S.left source.old) (λ bytes. plain_in bytes ≡ None) }
+    ensures built { IfSome (S.left source.old) (λ bytes. plain_in bytes ≡ None → is_run (map (λ w. w.now) words.now) ≡ true
         → (result ≡ 1) ⊎ (result ≡ 4) ⊎ (result ≡ 6) ⊎ (result ≡ 8)) }
 
     // With the statuses 0, 5 and 8 the source was read to its end.
