@@ -1,5 +1,5 @@
 -- What is known of the output once all bytes were read.
-use Rattle.std.proofs.Common.{◌≡◌, ◌≤◌, ℕ, List, length, true, false, Result, Ok, Err, IfSome, Some}
+use Rattle.std.proofs.Common.{◌≡◌, ◌≤◌, subst, ℕ, List, length, true, false, Result, Ok, Err, IfSome, Some}
 use Rattle.std.specs.declared.option.Option.{Option}
 use Rattle.std.specs.Result.{is_err}
 use Rattle.std.specs.Io.KnownBytes.{Appends, Consumes, IsAtEnd}
@@ -10,7 +10,9 @@ use Rattle.crowd_data.specs.declared.frame.Mark.{Mark}
 use Rattle.crowd_data.specs.Scenario.{Parts}
 use Rattle.scenario_read.specs.Plain.{plain_in}
 use Rattle.orca_cli.specs.Alone.{text_alone}
-use Rattle.orca_cli.specs.Output.{IsOutput}
+use Rattle.crowd_data.specs.declared.post.Post.{Post}
+use Rattle.crowd_data.specs.Run.{IsRun, Snapshot}
+use Rattle.orca_cli.specs.Output.{EveryRunIsSafe, IsOutput, IsSafeRun}
 use Rattle.orca_cli.proofs.AloneRuns.{IsAdvisedOnly, output_is}
 
 wrote_ok : {T E : Type 0} (a b : Option (List ℕ)) (r : Result T E) (text : List ℕ) → is_err r ≡ false → Wrote a b r text → Appends a b text
@@ -25,17 +27,25 @@ pub rose_err : {T E : Type 0} (before now : ℕ) (r : Result T E) → is_err r �
 rose_err before now (Ok v) failed h = cc failed
 rose_err before now (Err e) failed h = h.failed
 
+-- the law of one scenario is that of the bytes that stand for it
+safe_bytes : (bytes : List ℕ) (scenario : Parts) → plain_in bytes ≡ Some scenario
+    → ((lists : List (List Post)) → (frames : List Snapshot) → IsRun scenario lists frames → IsSafeRun scenario frames) → EveryRunIsSafe bytes
+safe_bytes bytes scenario e law other f lists frames run =
+    let same : scenario ≡ other = cc (e, f) in
+    subst (λ (s : Parts). IsRun s lists frames → IsSafeRun s frames) same (law lists frames) run
+
 -- all the bytes were read, and they stand for a scenario of the plain form whose agent has this advice
 module _ (vel : V2) (mark : Mark) (left after : Option (List ℕ)) (bytes : List ℕ) (limit : ℕ) (all : Consumes left after bytes) (end : IsAtEnd after) (short : length bytes ≤ limit) (scenario : Parts) (plain : plain_in bytes ≡ Some scenario)
-    (advised : IsAdvisedOnly vel mark scenario.agents) {T E : Type 0} (a b : Option (List ℕ)) (r : Result T E) (w : Wrote a b r (text_alone vel mark scenario)) where
+    (advised : IsAdvisedOnly vel mark scenario.agents) (law : (lists : List (List Post)) → (frames : List Snapshot) → IsRun scenario lists frames → IsSafeRun scenario frames)
+    {T E : Type 0} (a b : Option (List ℕ)) (r : Result T E) (w : Wrote a b r (text_alone vel mark scenario)) where
   -- its output was written
-  pub written : is_err r ≡ false → IfSome left (λ whole. (length whole ≤ limit) × ((text : List ℕ) × IsOutput whole text × Appends a b text))
+  pub written : is_err r ≡ false → IfSome left (λ whole. (length whole ≤ limit) × ((text : List ℕ) × IsOutput whole text × Appends a b text) × EveryRunIsSafe whole)
   written fine =
-      Consumes-whole left after bytes (λ whole. (length whole ≤ limit) × ((text : List ℕ) × IsOutput whole text × Appends a b text)) all end
-      (short, (text_alone vel mark scenario, output_is vel mark bytes scenario plain advised, wrote_ok a b r _ fine w))
+      Consumes-whole left after bytes (λ whole. (length whole ≤ limit) × ((text : List ℕ) × IsOutput whole text × Appends a b text) × EveryRunIsSafe whole) all end
+      (short, (text_alone vel mark scenario, output_is vel mark bytes scenario plain advised, wrote_ok a b r _ fine w), safe_bytes bytes scenario plain law)
 
   -- a prefix of its output was written
-  pub cut_short : is_err r ≡ true → IfSome left (λ whole. (length whole ≤ limit) × ((text : List ℕ) × IsOutput whole text × AppendsPrefix a b text))
+  pub cut_short : is_err r ≡ true → IfSome left (λ whole. (length whole ≤ limit) × ((text : List ℕ) × IsOutput whole text × AppendsPrefix a b text) × EveryRunIsSafe whole)
   cut_short failed =
-      Consumes-whole left after bytes (λ whole. (length whole ≤ limit) × ((text : List ℕ) × IsOutput whole text × AppendsPrefix a b text)) all end
-      (short, (text_alone vel mark scenario, output_is vel mark bytes scenario plain advised, wrote_err a b r _ failed w))
+      Consumes-whole left after bytes (λ whole. (length whole ≤ limit) × ((text : List ℕ) × IsOutput whole text × AppendsPrefix a b text) × EveryRunIsSafe whole) all end
+      (short, (text_alone vel mark scenario, output_is vel mark bytes scenario plain advised, wrote_err a b r _ failed w), safe_bytes bytes scenario plain law)

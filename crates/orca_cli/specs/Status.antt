@@ -3,7 +3,7 @@ use Rattle.std.specs.Prelude.{◌≡◌, ℕ, ◌+◌, ◌<◌, ◌≤◌, true,
 use Rattle.std.specs.declared.option.Option.{Option}
 use Rattle.std.specs.Io.KnownBytes.{Appends, IsAtEnd, Keeps}
 use Rattle.outside_io.specs.Causes.{AppendsPrefix, Rose, Takes, TakesAtMost}
-use Rattle.orca_cli.specs.Output.{IsOutput}
+use Rattle.orca_cli.specs.Output.{EveryRunIsSafe, IsOutput}
 use Rattle.scenario_read.specs.Plain.{plain_in}
 use Rattle.orca_cli.specs.Words.{is_run}
 use Rattle.orca_cli.specs.declared.status.Status.{Status}
@@ -55,10 +55,10 @@ Holds words old new TooLong =
 Holds words old new NotYet =
     (is_run words ≡ true) × IfSome old.left (λ bytes. (length bytes ≤ input_limit) × (plain_in bytes ≡ None)) × IsAtEnd new.left × IsUnwritten old new
 Holds words old new WriteFault =
-    (is_run words ≡ true) × IfSome old.left (λ bytes. (length bytes ≤ input_limit) × WrotePart old new bytes) × IsAtEnd new.left × Rose old.writes new.writes
+    (is_run words ≡ true) × IfSome old.left (λ bytes. (length bytes ≤ input_limit) × WrotePart old new bytes × EveryRunIsSafe bytes) × IsAtEnd new.left × Rose old.writes new.writes
 Holds words old new NoMemory = (is_run words ≡ true) × TakesAtMost old.left new.left input_limit × IsUnwritten old new
 Holds words old new Done =
-    (is_run words ≡ true) × IfSome old.left (λ bytes. (length bytes ≤ input_limit) × WroteOutput old new bytes) × IsAtEnd new.left
+    (is_run words ≡ true) × IfSome old.left (λ bytes. (length bytes ≤ input_limit) × WroteOutput old new bytes × EveryRunIsSafe bytes) × IsAtEnd new.left
 
 -- the line of each status on the error output
 unfoldable pub message_of : Status → List ℕ

@@ -2,7 +2,7 @@
 ghost use Rattle.std.specs.Prelude.{◌≡◌, ◌≢◌, ◌↔◌, ◌⊎◌, ◌<◌, ℕ, List, map, length, IfSome, true, false, None};
 ghost use Rattle.std.specs.Io.KnownBytes.{Appends, IsAtEnd, Keeps};
 ghost use Rattle.outside_io.specs.Causes.{AppendsPrefix, Rose};
-ghost use Rattle.orca_cli.specs.Output.{IsOutput};
+ghost use Rattle.orca_cli.specs.Output.{EveryRunIsSafe, IsOutput};
 ghost use Rattle.scenario_read.specs.Plain.{plain_in};
 ghost use Rattle.orca_cli.specs.Status.{Holds, Reports, code_of, input_limit};
 ghost use Rattle.orca_cli.specs.Words.{is_run};
@@ -12,8 +12,10 @@ use crate::advice::advise_only;
 use crate::alone::write_run;
 use crate::status::{Status, code, report};
 use crate::words::is_run;
+use body_law::keeps_off_walls;
 use crowd_data::first_frame;
 use outside_io::{Gate, ReadAllFault, Sink, Source, read_all};
+use pair_law::pairs_keep_apart;
 use scenario_read::{PlainFault, read_plain};
 use std::alloc::Global;
 
@@ -40,6 +42,8 @@ fn work<S: Source, T: Sink>(alloc: Global, words: &[&str], source: &mut S, out: 
         Err(PlainFault::NotPlain) => return Status::NotYet,
         Err(PlainFault::NoMemory) => return Status::NoMemory,
     };
+    keeps_off_walls(&scenario);
+    pairs_keep_apart(&scenario);
     let Ok(advice) = advise_only(alloc, scenario.agents()) else {
         return Status::NoMemory;
     };
@@ -88,6 +92,10 @@ pub fn offline<S: Source, T: Sink, E: Sink, G: Gate + Sync>(
     // scenario that the bytes stand for; with status 5 a prefix of it.
     ensures transcript { result ≡ 0 → IfSome (S.left source.old) (λ bytes. (text : List ℕ) × IsOutput bytes text × Appends (T.held out.old) (T.held out.new) text) }
     ensures cut_short { result ≡ 5 → IfSome (S.left source.old) (λ bytes. (text : List ℕ) × IsOutput bytes text × AppendsPrefix (T.held out.old) (T.held out.new) text) }
+
+    // Every run that the plain definitions give for these bytes is safe: no disc ever cuts a segment, no
+    // velocity is longer than its agent's speed, and discs keep apart as the laws of pairs say.
+    ensures safe { (result ≡ 0) ⊎ (result ≡ 5) → IfSome (S.left source.old) EveryRunIsSafe }
 
     // Each other status leaves `out` as it was.
     ensures unwritten { result ≢ 0 → result ≢ 5 → Keeps (T.held out.old) (T.held out.new) × (T.faults out.new ≡ T.faults out.old) }

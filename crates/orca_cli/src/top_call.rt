@@ -2,7 +2,7 @@
 ghost use Rattle.std.specs.Prelude.{◌≡◌, ◌≢◌, ◌↔◌, ◌⊎◌, ◌<◌, ℕ, List, map, length, IfSome, true, false, None};
 ghost use Rattle.std.specs.Io.KnownBytes.{Appends, IsAtEnd, Keeps};
 ghost use Rattle.outside_io.specs.Causes.{AppendsPrefix, Rose};
-ghost use Rattle.orca_cli.specs.Output.{IsOutput};
+ghost use Rattle.orca_cli.specs.Output.{EveryRunIsSafe, IsOutput};
 ghost use Rattle.scenario_read.specs.Plain.{plain_in};
 ghost use Rattle.orca_cli.specs.Status.{Holds, Reports, code_of, input_limit};
 ghost use Rattle.orca_cli.specs.Words.{is_run};
@@ -32,6 +32,10 @@ pub fn orca<S: Source, T: Sink, E: Sink, G: Gate + Sync>(
     // scenario that the bytes stand for; with status 5 a prefix of it.
     ensures transcript { result ≡ 0 → IfSome (S.left source.old) (λ bytes. (text : List ℕ) × IsOutput bytes text × Appends (T.held out.old) (T.held out.new) text) }
     ensures cut_short { result ≡ 5 → IfSome (S.left source.old) (λ bytes. (text : List ℕ) × IsOutput bytes text × AppendsPrefix (T.held out.old) (T.held out.new) text) }
+
+    // Every run that the plain definitions give for these bytes is safe: no disc ever cuts a segment, no
+    // velocity is longer than its agent's speed, and discs keep apart as the laws of pairs say.
+    ensures safe { (result ≡ 0) ⊎ (result ≡ 5) → IfSome (S.left source.old) EveryRunIsSafe }
 
     // Each other status leaves `out` as it was.
     ensures unwritten { result ≢ 0 → result ≢ 5 → Keeps (T.held out.old) (T.held out.new) × (T.faults out.new ≡ T.faults out.old) }

@@ -1,5 +1,5 @@
 // A stretch of a border.
-ghost use Rattle.std.specs.Prelude.{◌≡◌, ◌≤◌, ◌↔◌, length, pos, ◌<ℤ◌, ◌≤ℤ◌, IsTrue, IfSome, IfNone};
+ghost use Rattle.std.specs.Prelude.{◌≤◌, ◌↔◌, length, pos, ◌<ℤ◌, ◌≤ℤ◌, IsTrue, IfSome, IfNone};
 ghost use Rattle.std.specs.List.{slice_range};
 ghost use Rattle.std.specs.Option.{ForSome, IsSomeAnd};
 ghost use Rattle.fixed_vec.specs.Point.{IsIn, Rational};

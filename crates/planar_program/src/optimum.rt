@@ -1,10 +1,10 @@
 // The common point of half-planes that is nearest to a whole point.
-ghost use Rattle.std.specs.Prelude.{◌↔◌, ◌<◌, ◌≤◌, length, slice_index_or, pos, ◌≤ℤ◌, IsNone, IfSome, IfNone};
+ghost use Rattle.std.specs.Prelude.{◌↔◌, ◌<◌, ◌≤◌, length, pos, ◌≤ℤ◌, IsNone, IfSome, IfNone};
 ghost use Rattle.fixed_vec.specs.Meeting.{IsEmpty, Meeting, Nearest, relieved_after};
 ghost use Rattle.fixed_vec.specs.Point.{Rational};
-ghost use Rattle.planar_line.specs.Border.{IsOnBorder, IsPreference, toward};
-ghost use Rattle.planar_line.specs.Relief.{KeepBounds, no_plane};
-ghost use Rattle.planar_program.specs.Taken.{BestOnBorder, IsOnTaken, IsTaken};
+ghost use Rattle.planar_line.specs.Border.{IsPreference, toward};
+ghost use Rattle.planar_line.specs.Relief.{KeepBounds};
+ghost use Rattle.planar_program.specs.Taken.{BestOnBorder, IsOnTaken};
 
 use fixed_vec::{HalfPlane, Point, V2};
 use planar_line::{Span, contains_at, plane_at};

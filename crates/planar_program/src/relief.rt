@@ -8,25 +8,26 @@ ghost use Rattle.planar_program.specs.Met.{IsMet};
 use crate::optimum::nearest;
 use fixed_vec::{HalfPlane, Point, V2};
 
-/// The greatest relief that is tried.
+/// The greatest relief that is tried, in whole units per step.
 pub const GREATEST_RELIEF: u32 = 262_143;
 
-/// A relief of the soft half-planes, in units of velocity, and the point nearest to a whole point that
-/// it leaves.
+/// A relief of the soft half-planes, in whole units per step, and the point nearest to a whole point
+/// among those that it leaves.
 #[derive(Clone, Copy)]
 pub struct Relief {
     pub relief: u32,
     pub point: Point,
 }
 
-/// The least relief of the half-planes after the first `hard` that leaves a point in each half-plane of
-/// the list, and the nearest such point to `pref`. None comes exactly where the hard half-planes have no
-/// common point.
+/// The least relief of the half-planes after the first `hard` that leaves a point in each half-plane
+/// of the list, and the nearest such point to `pref`. None comes exactly where the hard half-planes have
+/// no common point.
 pub fn least_relief(planes: &[HalfPlane], hard: usize, pref: V2) -> Option<Relief>
     requires hard { hard ≤ length planes.now }
     requires pref { IsPreference pref }
     requires bounds { KeepBounds hard GREATEST_RELIEF planes.now }
-    requires enough { IsMet (take hard planes.now) → IsMet (relieved_after hard GREATEST_RELIEF planes.now) }
+    requires enough { IsMet (take hard planes.now)
+        → IsMet (relieved_after hard GREATEST_RELIEF planes.now) }
     ensures nearest { IfSome result
         (λ r. Nearest (relieved_after hard r.relief planes.now) pref r.point) }
     ensures least { IfSome result
@@ -42,7 +43,8 @@ pub fn least_relief(planes: &[HalfPlane], hard: usize, pref: V2) -> Option<Relie
     let mut high = GREATEST_RELIEF;
     let mut point = nearest(planes, hard, high, pref)?;
     while low < high {
-        let relief = (low + high) / 2;
+        // Most reliefs are small, so the steps double until one is enough, and halve from there on.
+        let relief = ((low + high) / 2).min(2 * low);
         match nearest(planes, hard, relief, pref) {
             Some(nearer) => {
                 point = nearer;

@@ -1,5 +1,5 @@
 // Worked programs of two half-planes, with expected points and reliefs by hand.
-ghost use Rattle.std.specs.Prelude.{◌≡◌, ◌^◌, ◌<◌, ◌≤◌, unsigned_abs};
+ghost use Rattle.std.specs.Prelude.{◌≡◌, ◌^◌, ◌<◌, ◌≤◌};
 ghost use Rattle.fixed_vec.specs.HalfPlane.{FitsPlane};
 ghost use Rattle.planar_line.specs.Border.{IsPreference};
 ghost use Rattle.planar_line.specs.Relief.{HasRoom};

@@ -24,7 +24,7 @@ square_nonneg_of : (u : V2) → pos 0 ≤ℤ square u
 square_nonneg_of u = sum_nonneg _ _ (square_nonneg u.x) (square_nonneg u.y)
 
 -- Cauchy's inequality, with bounds of the lengths
-dot_le : (u v : V2) (a b : ℤ) → pos 0 ≤ℤ a → pos 0 ≤ℤ b → square u ≤ℤ (a *ℤ a) → square v ≤ℤ (b *ℤ b) → dot u v ≤ℤ (a *ℤ b)
+pub dot_le : (u v : V2) (a b : ℤ) → pos 0 ≤ℤ a → pos 0 ≤ℤ b → square u ≤ℤ (a *ℤ a) → square v ≤ℤ (b *ℤ b) → dot u v ≤ℤ (a *ℤ b)
 dot_le u v a b ha hb h k = root_le _ (a *ℤ b) (product_nonneg a b ha hb)
     (shown (u.x ∷ u.y ∷ v.x ∷ v.y ∷ a ∷ b ∷ [])
     (sum_nonneg _ _ (gap_nonneg _ _ (along_le u.x u.y v.x v.y))

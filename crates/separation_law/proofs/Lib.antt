@@ -3,3 +3,5 @@ pub mod FarPairs
 pub mod Borders
 pub mod Shares
 pub mod Pairs
+pub mod WallWays
+pub mod Walls

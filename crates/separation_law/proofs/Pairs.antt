@@ -46,7 +46,7 @@ region_apart low high tau P apart arc left right =
 along_plane : (plane : Plane) (v : V2) → IsIn plane (whole v) → plane.c ≤ℤ dot plane.n v
 along_plane plane v inside = omega (arith, ints)
 
-length_reaches : (n : V2) → square n ≤ℤ (pos (whole_length n) *ℤ pos (whole_length n))
+pub length_reaches : (n : V2) → square n ≤ℤ (pos (whole_length n) *ℤ pos (whole_length n))
 length_reaches n = omega (arith, ints, sum_nonneg _ _ (square_nonneg n.x) (square_nonneg n.y), ceil_root_reaches (unsigned_abs (square n)))
 
 some_radius : (low high : Disc) (tau : ℕ) → IsPair low high tau → pos 0 <ℤ joint_radius low high

@@ -1,6 +1,6 @@
-// Each law is called once, at a pair that meets what it needs.
-use crate::{far_pair, pair_apart, pair_apart_at_end};
-use crowd_data::{Disc, Place};
+// Each law is called once, at a pair or a segment that meets what it needs.
+use crate::{far_pair, off_segment, pair_apart, pair_apart_at_end};
+use crowd_data::{Agent, Disc, Place, Segment, clear};
 use fixed_vec::V2;
 
 #[test]
@@ -52,4 +52,44 @@ fn laws_hold_of_worked_pairs() {
         speed: 400,
     };
     far_pair(&a, &b, V2 { x: 0, y: 400 }, V2 { x: 0, y: -400 });
+}
+
+#[test]
+fn wall_law_holds_of_worked_segments(rt: HostRuntime) {
+    let origin = V2 { x: 0, y: 0 };
+    let walker = Agent {
+        pos: origin,
+        vel: origin,
+        pref: origin,
+        radius: 500,
+        speed: 400,
+        range: 15000,
+        most: 10,
+        horizon: 10,
+        wall_horizon: 10,
+    };
+
+    // Abreast of a wall 1000 units away: 50 units per step come to touching it in 10 steps.
+    let wall = Segment {
+        a: V2 { x: -2000, y: 1000 },
+        b: V2 { x: 2000, y: 1000 },
+    };
+    assert!(rt; clear(origin, 500, &wall));
+    off_segment(origin, &walker, &wall, V2 { x: 300, y: 50 });
+
+    // One unit out of reach: straight at it.
+    let far = Segment {
+        a: V2 { x: -2000, y: 4501 },
+        b: V2 { x: 2000, y: 4501 },
+    };
+    assert!(rt; clear(origin, 500, &far));
+    off_segment(origin, &walker, &far, V2 { x: 0, y: 400 });
+
+    // Touching an end, at rest.
+    let touched = Segment {
+        a: V2 { x: 500, y: 0 },
+        b: V2 { x: 2000, y: 0 },
+    };
+    assert!(rt; clear(origin, 500, &touched));
+    off_segment(origin, &walker, &touched, origin);
 }

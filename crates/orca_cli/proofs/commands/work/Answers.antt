@@ -16,7 +16,7 @@ returns-then-is_err g c =
     let advised = rw c.agents.ensures.value at c.in-Ok-advise_only.ensures.advised in
     let failed = sym c.is_err.ensures.value ∙ c.if-is_err.true in (
       sym c.is_run.ensures ∙ c.if-not-is_run.false,
-      cut_short _ _ _ _ c.in-Ok.bytes.items _ read.all read.end read.short c.in-Ok-read_plain.scenario plain advised _ _ c.write_run.result c.write_run.ensures.text failed,
+      cut_short _ _ _ _ c.in-Ok.bytes.items _ read.all read.end read.short c.in-Ok-read_plain.scenario plain advised (λ lists frames run. (c.keeps_off_walls.ensures lists frames run, c.pairs_keep_apart.ensures lists frames run)) _ _ c.write_run.result c.write_run.ensures.text failed,
       read.end,
       rose_err _ _ _ failed c.write_run.ensures.cause,
     )
@@ -28,6 +28,6 @@ returns g c =
     let advised = rw c.agents.ensures.value at c.in-Ok-advise_only.ensures.advised in
     let fine = sym c.is_err.ensures.value ∙ c.if-is_err.false in (
       sym c.is_run.ensures ∙ c.if-not-is_run.false,
-      written _ _ _ _ c.in-Ok.bytes.items _ read.all read.end read.short c.in-Ok-read_plain.scenario plain advised _ _ c.write_run.result c.write_run.ensures.text fine,
+      written _ _ _ _ c.in-Ok.bytes.items _ read.all read.end read.short c.in-Ok-read_plain.scenario plain advised (λ lists frames run. (c.keeps_off_walls.ensures lists frames run, c.pairs_keep_apart.ensures lists frames run)) _ _ c.write_run.result c.write_run.ensures.text fine,
       read.end,
     )

@@ -1,4 +1,4 @@
-use Rattle.std.proofs.Common.{◌/◌, ◌+◌, refl, sym, arith}
+use Rattle.std.proofs.Common.{refl, sym, arith}
 use Rattle.std.proofs.lemmas.Bool.{false≢true}
 use Rattle.planar_line.proofs.Reliefs.{keep-less}
 use Rattle.planar_program.proofs.Looser.{meeting-looser, meeting-hard}
@@ -25,7 +25,7 @@ loop-low-preserved c =
       ordered = omega arith;
       greatest = i.greatest;
       nearest = i.nearest;
-      empty = λ d l p m. c.in-None.ensures.none.0 refl p (meeting-looser c.args.hard c.args.planes.now c.requires.hard d ((c.loop-low.low + c.loop-low.high) / 2) p (omega arith) m);
+      empty = λ d l p m. c.in-None.ensures.none.0 refl p (meeting-looser c.args.hard c.args.planes.now c.requires.hard d c.min-relief.result p (omega arith) m);
     }
 
 pub returns-clause-least : goal.returns-clause-least

@@ -1,0 +1,5 @@
+pub mod Lists
+pub mod Crowds
+pub mod Runs
+pub mod WithinSpeed
+pub mod OffWalls
