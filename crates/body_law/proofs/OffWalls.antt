@@ -30,7 +30,7 @@ use Rattle.body_law.proofs.WithinSpeed.{IsFull, IsWithinSpeed, advice_within, in
 -- ---- one advice
 
 -- the velocity keeps the agent off a segment, for its wall horizon and for one step
-abbrev IsKeptOff : V2 → V2 → Agent → Segment → Type 0
+abbrev pub IsKeptOff : V2 → V2 → Agent → Segment → Type 0
 IsKeptOff at vel agent segment = OffThroughout at vel agent.radius segment × OffThroughout at (times (pos agent.wall_horizon) vel) agent.radius segment
 
 module _ (segments : List Segment) (crowd : List Agent) (who : ℕ) (vel : V2) (mark : Mark) (relief : ℕ) where
@@ -54,14 +54,14 @@ by_reach at vel agent segment true e slow inside = inl (e, inside e)
 by_reach at vel agent segment false e slow inside = inr (inl (e, slow))
 
 -- an advised velocity heeds each segment
-advice_heeds : (segments : List Segment) (crowd : List Agent) (who : ℕ) (vel : V2) (mark : Mark) (relief : ℕ)
+pub advice_heeds : (segments : List Segment) (crowd : List Agent) (who : ℕ) (vel : V2) (mark : Mark) (relief : ℕ)
     → IsAdvice segments crowd who vel mark relief → All (λ segment. Heeds (agent_at crowd who).pos (agent_at crowd who) segment vel) segments
 advice_heeds segments crowd who vel mark relief advice k d l = ⊎_elim
     (λ stands. inr (inr stands.still))
     (λ moves. by_reach (agent_at crowd who).pos vel (agent_at crowd who) (slice_index_or segments k d) _ refl (advice_within segments crowd who vel mark relief advice) (in_walls segments crowd who vel advice.0 relief moves k d l))
     advice.1
 
-advice_off : (segments : List Segment) (crowd : List Agent) (who : ℕ) (vel : V2) (mark : Mark) (relief : ℕ) → 1 ≤ (agent_at crowd who).radius → 1 ≤ (agent_at crowd who).wall_horizon
+pub advice_off : (segments : List Segment) (crowd : List Agent) (who : ℕ) (vel : V2) (mark : Mark) (relief : ℕ) → 1 ≤ (agent_at crowd who).radius → 1 ≤ (agent_at crowd who).wall_horizon
     → All (IsClear (agent_at crowd who).pos (agent_at crowd who).radius) segments → IsAdvice segments crowd who vel mark relief
     → All (IsKeptOff (agent_at crowd who).pos vel (agent_at crowd who)) segments
 advice_off segments crowd who vel mark relief some_radius some_horizon clear advice k d l =
@@ -72,7 +72,7 @@ advice_off segments crowd who vel mark relief some_radius some_horizon clear adv
     )
 
 -- at the end of a way that stays off a segment the disc is clear of it
-clear_after : (at vel : V2) (radius : ℕ) (segment : Segment) → OffThroughout at vel radius segment → IsClear (plus at vel) radius segment
+pub clear_after : (at vel : V2) (radius : ℕ) (segment : Segment) → OffThroughout at vel radius segment → IsClear (plus at vel) radius segment
 clear_after at vel radius segment off j i hj hi hi0 =
     by (pos radius) (off (pos 1) (pos 1) j i (omega (arith, ints)) (omega (arith, ints)) (omega (arith, ints)) hj hi hi0)
   where
@@ -89,7 +89,7 @@ pub record IsSound (scenario : Parts) (frame : Snapshot) : Type 0 where
   pub clear : ClearFrame scenario frame
 
 module _ (scenario : Parts) (valid : IsValid scenario) (frame next : Snapshot) (posts : List Post) (sound : IsSound scenario frame) (step : IsNext scenario frame posts next) where
-  step_off : StaysOff scenario frame next
+  pub step_off : StaysOff scenario frame next
   step_off who h =
       let bodies = after_posts posts frame.bodies in
       let crowd = crowd_of scenario.agents bodies in
@@ -106,7 +106,7 @@ module _ (scenario : Parts) (valid : IsValid scenario) (frame next : Snapshot) (
       let kept : All (IsKeptOff (body_at bodies who).pos vel agent) scenario.segments = subst (λ a. All (IsKeptOff a.pos vel a) scenario.segments) same off in
       subst (λ at. All (IsKeptOff at vel agent) scenario.segments) stays kept
 
-  step_clear : ClearFrame scenario next
+  pub step_clear : ClearFrame scenario next
   step_clear who h k d l =
       let moved = step.moved who (omega (arith, sound.full, h)) in
       let segment = slice_index_or scenario.segments k d in
@@ -114,7 +114,7 @@ module _ (scenario : Parts) (valid : IsValid scenario) (frame next : Snapshot) (
       let at : (at_in next who) ≡ plus (at_in frame who) (vel_in next who) = moved.pos ∙ ap (λ at. plus at (vel_in next who)) (pos-after_posts posts frame.bodies who) in
       subst (λ at. IsClear at (agent_at scenario.agents who).radius segment) (sym at) (clear_after (at_in frame who) (vel_in next who) (agent_at scenario.agents who).radius segment off)
 
-  step_sound : IsSound scenario next
+  pub step_sound : IsSound scenario next
   step_sound = record { full = next_full scenario frame next posts sound.full step; clear = step_clear }
 
 -- ---- runs
@@ -125,7 +125,7 @@ pos-starting_bodies number [] who h = absurd (omega arith)
 pos-starting_bodies number (agent ∷ rest) zero h = refl
 pos-starting_bodies number (agent ∷ rest) (suc who) h = pos-starting_bodies (number + 1) rest who (omega arith)
 
-start_sound : (scenario : Parts) → IsValid scenario → IsSound scenario (start_of scenario)
+pub start_sound : (scenario : Parts) → IsValid scenario → IsSound scenario (start_of scenario)
 start_sound scenario valid = record {
   full = start_full scenario;
   clear = λ who h.

@@ -4,9 +4,9 @@
 #![tactic(auto)]
 
 mod speed;
-mod wall;
 #[cfg(test)]
 mod tests;
+mod wall;
 
 pub use speed::keeps_speed;
 pub use wall::keeps_off_walls;

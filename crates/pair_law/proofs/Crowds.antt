@@ -16,6 +16,7 @@ agent_at-crowd_of (agent ∷ agents) [] who e h = absurd (omega arith)
 agent_at-crowd_of (agent ∷ agents) (body ∷ bodies) zero e h = refl
 agent_at-crowd_of (agent ∷ agents) (body ∷ bodies) (suc who) e h = agent_at-crowd_of agents bodies who (omega arith) (omega arith)
 
+-- there are as many as agents
 pub length-crowd_of : (agents : List Agent) (bodies : List Body) → length bodies ≡ length agents → length (crowd_of agents bodies) ≡ length agents
 length-crowd_of [] bodies e = refl
 length-crowd_of (agent ∷ agents) [] e = absurd (omega arith)
@@ -73,6 +74,7 @@ places_after (agent ∷ agents) post (body ∷ bodies) =
     let rest = places_after agents post bodies in
     λ i. first i ∷ rest i
 
+-- as many bodies, where they were, with the velocities that they had
 pub length-after_posts : (posts : List Post) (bodies : List Body) → length (after_posts posts bodies) ≡ length bodies
 length-after_posts posts bodies = unposted length length_after posts bodies
 

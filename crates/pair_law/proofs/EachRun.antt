@@ -9,7 +9,8 @@ use Rattle.crowd_data.specs.Limits.{IsAgent, IsVelocity}
 use Rattle.crowd_data.specs.Run.{Follow, IsNext, IsRun, Snapshot, no_body, start_of, starting_bodies, starting_body}
 use Rattle.crowd_data.specs.SafeSteps.{EachStep, PairsKeepApart, vel_in}
 use Rattle.crowd_data.specs.Scenario.{IsValid, Parts}
-use Rattle.pair_law.proofs.PairSteps.{IsFrameOf, pairs_keep_apart, slow}
+use Rattle.pair_law.proofs.PairSteps.{pairs_keep_apart, slow}
+use Rattle.pair_law.proofs.Standing.{IsFrameOf}
 use Rattle.pair_law.proofs.Sizes.{slow_velocity}
 
 -- ---- frame 0
@@ -24,11 +25,13 @@ starting_velocities number (agent ∷ rest) all =
     All-cons (λ (body : Body). IsVelocity body.vel) (starting_body number agent) (starting_bodies (number + 1) rest) (All-head IsAgent agent rest all).vel
     (starting_velocities (number + 1) rest (All-tail IsAgent agent rest all))
 
+-- frame 0 is a frame of the scenario
 start_is : (scenario : Parts) → IsValid scenario → IsFrameOf scenario (start_of scenario)
 start_is scenario valid = record { bodies = length-starting_bodies 0 scenario.agents; velocities = starting_velocities 0 scenario.agents valid.agents }
 
 -- ---- each next frame
 
+-- so is each next one, as the speed law keeps its velocities within the limits
 next_is : (scenario : Parts) (frame : Snapshot) (posts : List Post) (next : Snapshot) → IsValid scenario → IsFrameOf scenario frame → IsNext scenario frame posts next → IsFrameOf scenario next
 next_is scenario frame posts next valid sound step = record {
   bodies = step.bodies ∙ sound.bodies;
@@ -36,6 +39,8 @@ next_is scenario frame posts next valid sound step = record {
       let below : who < length scenario.agents = omega (arith, step.bodies, sound.bodies) in
       slow_velocity (vel_in next who) _ (slow scenario frame posts next valid sound step who below) (valid.agents who nobody below).build.speed);
 }
+
+-- ---- the run
 
 follow_keeps_apart : (scenario : Parts) (frame : Snapshot) (lists : List (List Post)) (rest : List Snapshot) → IsValid scenario → IsFrameOf scenario frame → Follow scenario frame lists rest
     → EachStep (PairsKeepApart scenario) (frame ∷ rest)
@@ -47,6 +52,7 @@ follow_keeps_apart scenario frame (posts ∷ lists) (next ∷ rest) valid sound 
   follow_keeps_apart scenario next lists rest valid (next_is scenario frame posts next valid sound follow.0) follow.1,
 )
 
+-- the law of a run
 pub run_keeps_apart : (scenario : Parts) (lists : List (List Post)) (frames : List Snapshot) → IsValid scenario → IsRun scenario lists frames → EachStep (PairsKeepApart scenario) frames
 run_keeps_apart scenario lists [] valid run = absurd run
 run_keeps_apart scenario lists (first ∷ rest) valid run =

@@ -7,12 +7,14 @@ use Rattle.crowd_data.specs.declared.agent.Agent.{Agent}
 use Rattle.crowd_data.specs.Advice.{agent_at, disc_of, share_against}
 use Rattle.crowd_data.specs.Pairs.{higher_share, lower_share}
 
+-- the plane that a test chooses, drawn in
 chosen : (t : Bool) (x y : Plane) → t ≡ true → drawn_of (cond t x y) ≡ drawn_of x
 chosen t x y e = ap (λ b. drawn_of (cond b x y)) e
 
 left_out : (t : Bool) (x y : Plane) → t ≡ false → drawn_of (cond t x y) ≡ drawn_of y
 left_out t x y e = ap (λ b. drawn_of (cond b x y)) e
 
+-- what a takes against b, and b against a
 pub lower_against : (crowd : List Agent) (a b : ℕ) → a < b
     → share_against crowd a b ≡ drawn_of (lower_share (disc_of (agent_at crowd a)) (disc_of (agent_at crowd b)) (min (agent_at crowd a).horizon (agent_at crowd b).horizon))
 lower_against crowd a b h = chosen (ltb a b) _ _ (lt-ltb a b h)

@@ -20,6 +20,7 @@ overlap_near z r s u v over some =
     let l = mul-le-mul more more in
     by_lt_z z (pos (r + s) *ℤ pos (r + s)) (λ less. omega (arith, ints, l, less)) (λ not_less. absurd (over not_less))
 
+-- one step with a velocity
 pub times_one : (v : V2) → v ≡ times (pos 1) v
 times_one v =
     let x : v.x ≡ pos 1 *ℤ v.x = omega (arith, ints) in

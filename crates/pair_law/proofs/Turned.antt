@@ -12,6 +12,7 @@ use Rattle.crowd_data.specs.Safety.{ApartThroughout, IsApart}
 use Rattle.crowd_data.specs.SafeSteps.{AreApart, AreNear, KeepsApart, StayApart, at_in, radii, vel_in}
 use Rattle.crowd_data.specs.Scenario.{Parts}
 
+-- the squared distance, and that of the way
 pub turned_square : (a b : V2) → square (minus b a) ≡ square (minus a b)
 turned_square a b = equal (a.x ∷ a.y ∷ b.x ∷ b.y ∷ []) (search quotes depth 40 fits 20000) tt
 
@@ -32,6 +33,7 @@ turned_near a b near =
     subst (λ (n : ℕ). unsigned_abs (square (minus b.pos a.pos)) ≤ n * n) reach
     (subst (λ (z : ℤ). unsigned_abs z ≤ (a.radius + b.radius + a.speed + b.speed) * (a.radius + b.radius + a.speed + b.speed)) (turned_square b.pos a.pos) near)
 
+-- the law of two agents, the other way round
 pub turned : (scenario : Parts) (frame next : Snapshot) (a b : ℕ) → KeepsApart scenario frame next b a → KeepsApart scenario frame next a b
 turned scenario frame next a b keeps =
     let ra = (agent_at scenario.agents a).radius in
