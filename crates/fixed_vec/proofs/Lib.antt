@@ -1,4 +1,5 @@
 pub mod DrawingIn
+pub mod PlaneLaws
 pub mod Sizes
 pub mod Newton
 pub mod NearestWhole

@@ -1,8 +1,11 @@
 // The top call over sources and sinks in memory.
 ghost use Rattle.std.specs.Prelude.{◌≤◌};
+ghost use Rattle.crowd_data.specs.Limits.{IsAgent, IsVelocity};
 
+use crate::advice::advise_only;
 use crate::orca;
-use fixed_vec::{List, NoMemory};
+use crowd_data::Agent;
+use fixed_vec::{List, NoMemory, V2, dot};
 use outside_io::{MemSink, MemSource, OpenGate};
 use std::alloc::Global;
 use std::test::Fail;
@@ -284,5 +287,44 @@ fn walks_on(rt: HostRuntime) -> Result<(), Fail> {
     let line: &[u8] =
         b"frame,1\nbody,0,175,-77,180,-75,180,-75,feasible,0\nframe,2\nbody,0,355,-152,180,-75,180,-75,feasible,0\nend,2\n";
     assert_eq!(rt; ended.out.held().ends_with(line), true);
+    Ok(())
+}
+
+fn walker(speed: u32, pref: V2) -> Agent
+    requires speed { speed ≤ 16384 }
+    requires slow { IsVelocity pref }
+    ensures { IsAgent result }
+{
+    let origin = V2 { x: 0, y: 0 };
+    Agent {
+        pos: origin,
+        vel: origin,
+        pref,
+        radius: 500,
+        speed,
+        range: 0,
+        most: 0,
+        horizon: 1,
+        wall_horizon: 1,
+    }
+}
+
+#[test]
+fn keeps_within_every_speed(rt: HostRuntime) -> Result<(), Fail> {
+    let prefs = [
+        V2 { x: 16384, y: 0 },
+        V2 {
+            x: -16384,
+            y: 16384,
+        },
+        V2 { x: 5000, y: -12345 },
+    ];
+    for speed in 0..16385u32 {
+        for pref in prefs {
+            let advice = advise_only(rt.alloc(), &[walker(speed, pref)])?;
+            let square = speed as i128 * speed as i128;
+            assert!(rt; dot(advice.vel, advice.vel) <= square, "at {speed}");
+        }
+    }
     Ok(())
 }
