@@ -1,5 +1,6 @@
 mod TextBehind
 mod AloneMoves
 mod AloneRuns
+mod Forms
 mod Outputs
 mod PolygonPoints

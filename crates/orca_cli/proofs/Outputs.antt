@@ -1,5 +1,5 @@
 -- What is known of the output once all bytes were read.
-use Rattle.std.proofs.Common.{◌≡◌, ◌≤◌, subst, ℕ, List, length, true, false, Result, Ok, Err, IfSome, Some}
+use Rattle.std.proofs.Common.{◌≡◌, ◌≤◌, subst, ℕ, List, length, true, false, Result, Ok, Err, IfSome}
 use Rattle.std.specs.declared.option.Option.{Option}
 use Rattle.std.specs.Result.{is_err}
 use Rattle.std.specs.Io.KnownBytes.{Appends, Consumes, IsAtEnd}
@@ -8,11 +8,12 @@ use Rattle.outside_io.specs.Causes.{AppendsPrefix, HasCause, Rose, Wrote}
 use Rattle.fixed_vec.specs.declared.vector.V2.{V2}
 use Rattle.crowd_data.specs.declared.frame.Mark.{Mark}
 use Rattle.crowd_data.specs.Scenario.{Parts}
-use Rattle.scenario_read.specs.Plain.{plain_in}
 use Rattle.orca_cli.specs.Alone.{text_alone}
 use Rattle.crowd_data.specs.declared.post.Post.{Post}
 use Rattle.crowd_data.specs.Run.{IsRun, Snapshot}
-use Rattle.orca_cli.specs.Output.{EveryRunIsSafe, IsOutput, IsSafeRun}
+use Rattle.orca_cli.specs.Output.{EveryRunIsSafe, IsOutput, IsSafeRun, StandsFor, is_alone}
+use Rattle.orca_cli.specs.Status.{IsTaken}
+use Rattle.orca_cli.proofs.Forms.{is_taken}
 use Rattle.orca_cli.proofs.AloneRuns.{IsAdvisedOnly, output_is}
 
 wrote_ok : {T E : Type 0} (a b : Option (List ℕ)) (r : Result T E) (text : List ℕ) → is_err r ≡ false → Wrote a b r text → Appends a b text
@@ -28,24 +29,24 @@ rose_err before now (Ok v) failed h = cc failed
 rose_err before now (Err e) failed h = h.failed
 
 -- the law of one scenario is that of the bytes that stand for it
-safe_bytes : (bytes : List ℕ) (scenario : Parts) → plain_in bytes ≡ Some scenario
+safe_bytes : (bytes : List ℕ) (scenario : Parts) → StandsFor bytes scenario
     → ((lists : List (List Post)) → (frames : List Snapshot) → IsRun scenario lists frames → IsSafeRun scenario frames) → EveryRunIsSafe bytes
 safe_bytes bytes scenario e law other f lists frames run =
-    let same : scenario ≡ other = cc (e, f) in
+    let same : scenario ≡ other = cc (e.read, f.read) in
     subst (λ (s : Parts). IsRun s lists frames → IsSafeRun s frames) same (law lists frames) run
 
--- all the bytes were read, and they stand for a scenario of the plain form whose agent has this advice
-module _ (vel : V2) (mark : Mark) (left after : Option (List ℕ)) (bytes : List ℕ) (limit : ℕ) (all : Consumes left after bytes) (end : IsAtEnd after) (short : length bytes ≤ limit) (scenario : Parts) (plain : plain_in bytes ≡ Some scenario)
+-- all the bytes were read, and they stand for a scenario of at most one agent, which has this advice
+module _ (vel : V2) (mark : Mark) (left after : Option (List ℕ)) (bytes : List ℕ) (limit : ℕ) (all : Consumes left after bytes) (end : IsAtEnd after) (short : length bytes ≤ limit) (scenario : Parts) (stands : StandsFor bytes scenario) (few : is_alone scenario ≡ true)
     (advised : IsAdvisedOnly vel mark scenario.agents) (law : (lists : List (List Post)) → (frames : List Snapshot) → IsRun scenario lists frames → IsSafeRun scenario frames)
     {T E : Type 0} (a b : Option (List ℕ)) (r : Result T E) (w : Wrote a b r (text_alone vel mark scenario)) where
   -- its output was written
-  pub written : is_err r ≡ false → IfSome left (λ whole. (length whole ≤ limit) × ((text : List ℕ) × IsOutput whole text × Appends a b text) × EveryRunIsSafe whole)
+  pub written : is_err r ≡ false → IfSome left (λ whole. (length whole ≤ limit) × ((text : List ℕ) × IsOutput whole text × Appends a b text) × EveryRunIsSafe whole × IsTaken whole)
   written fine =
-      Consumes-whole left after bytes (λ whole. (length whole ≤ limit) × ((text : List ℕ) × IsOutput whole text × Appends a b text) × EveryRunIsSafe whole) all end
-      (short, (text_alone vel mark scenario, output_is vel mark bytes scenario plain advised, wrote_ok a b r _ fine w), safe_bytes bytes scenario plain law)
+      Consumes-whole left after bytes (λ whole. (length whole ≤ limit) × ((text : List ℕ) × IsOutput whole text × Appends a b text) × EveryRunIsSafe whole × IsTaken whole) all end
+      (short, (text_alone vel mark scenario, output_is vel mark bytes scenario stands few advised, wrote_ok a b r _ fine w), safe_bytes bytes scenario stands law, is_taken bytes scenario stands few)
 
   -- a prefix of its output was written
-  pub cut_short : is_err r ≡ true → IfSome left (λ whole. (length whole ≤ limit) × ((text : List ℕ) × IsOutput whole text × AppendsPrefix a b text) × EveryRunIsSafe whole)
+  pub cut_short : is_err r ≡ true → IfSome left (λ whole. (length whole ≤ limit) × ((text : List ℕ) × IsOutput whole text × AppendsPrefix a b text) × EveryRunIsSafe whole × IsTaken whole)
   cut_short failed =
-      Consumes-whole left after bytes (λ whole. (length whole ≤ limit) × ((text : List ℕ) × IsOutput whole text × AppendsPrefix a b text) × EveryRunIsSafe whole) all end
-      (short, (text_alone vel mark scenario, output_is vel mark bytes scenario plain advised, wrote_err a b r _ failed w), safe_bytes bytes scenario plain law)
+      Consumes-whole left after bytes (λ whole. (length whole ≤ limit) × ((text : List ℕ) × IsOutput whole text × AppendsPrefix a b text) × EveryRunIsSafe whole × IsTaken whole) all end
+      (short, (text_alone vel mark scenario, output_is vel mark bytes scenario stands few advised, wrote_err a b r _ failed w), safe_bytes bytes scenario stands law, is_taken bytes scenario stands few)

@@ -1,13 +1,14 @@
 -- What each status says of the words, of the bytes, and of what was read and written.
-use Rattle.std.specs.Prelude.{◌≡◌, ℕ, ◌+◌, ◌<◌, ◌≤◌, true, false, List, [], length, None, IfSome, codes}
+use Rattle.std.specs.Prelude.{◌≡◌, ℕ, ◌+◌, ◌<◌, ◌≤◌, true, false, List, [], ◌++◌, length, IfSome, codes, decimal}
 use Rattle.std.specs.declared.option.Option.{Option}
 use Rattle.std.specs.Io.KnownBytes.{Appends, IsAtEnd, Keeps}
 use Rattle.outside_io.specs.Causes.{AppendsPrefix, Rose, Takes, TakesAtMost}
-use Rattle.orca_cli.specs.Output.{EveryRunIsSafe, IsOutput}
-use Rattle.scenario_read.specs.Plain.{plain_in}
+use Rattle.orca_cli.specs.Output.{EveryRunIsSafe, IsOutput, IsRefused, IsRefusedBy, IsUnbuilt}
+use Rattle.scenario_read.specs.declared.cause.Cause.{Cause}
+use Rattle.scenario_read.specs.declared.cause.Cause.TheVariants.{NoHeader, UnknownKind, FieldCount, NotANumber, OutOfRange, StepsTwice, TooMany, NoSteps, AgentOnSegment}
 use Rattle.orca_cli.specs.Words.{is_run}
 use Rattle.orca_cli.specs.declared.status.Status.{Status}
-use Rattle.orca_cli.specs.declared.status.Status.TheVariants.{Done, NoMemory, Usage, ReadFault, WriteFault, TooLong, NotYet}
+use Rattle.orca_cli.specs.declared.status.Status.TheVariants.{Done, NoMemory, Usage, Refused, ReadFault, WriteFault, TooLong, NotYet}
 
 -- the most bytes of an input
 abbrev pub input_limit : ℕ
@@ -17,6 +18,7 @@ abbrev pub code_of : Status → ℕ
 code_of Done = 0
 code_of NoMemory = 1
 code_of Usage = 2
+code_of (Refused index cause) = 3
 code_of ReadFault = 4
 code_of WriteFault = 5
 code_of TooLong = 6
@@ -45,6 +47,10 @@ WroteOutput old new bytes = (text : List ℕ) × IsOutput bytes text × Appends 
 abbrev pub WrotePart : Ends → Ends → List ℕ → Type 0
 WrotePart old new bytes = (text : List ℕ) × IsOutput bytes text × AppendsPrefix old.held new.held text
 
+-- no cause holds, and the form is built
+abbrev pub IsTaken : List ℕ → Type 0
+IsTaken bytes = (¬ IsRefused bytes) × (¬ IsUnbuilt bytes)
+
 -- the causes of each status, in the order in which they are tried, and what it leaves
 abbrev pub Holds : List (List ℕ) → Ends → Ends → Status → Type 0
 Holds words old new Usage = (is_run words ≡ false) × IsUntouched old new × IsUnwritten old new
@@ -53,18 +59,33 @@ Holds words old new ReadFault =
 Holds words old new TooLong =
     (is_run words ≡ true) × IfSome old.left (λ bytes. input_limit < length bytes) × Takes old.left new.left (input_limit + 1) × IsUnwritten old new
 Holds words old new NotYet =
-    (is_run words ≡ true) × IfSome old.left (λ bytes. (length bytes ≤ input_limit) × (plain_in bytes ≡ None)) × IsAtEnd new.left × IsUnwritten old new
+    (is_run words ≡ true) × IfSome old.left (λ bytes. (length bytes ≤ input_limit) × IsUnbuilt bytes × ¬ IsRefused bytes) × IsAtEnd new.left × IsUnwritten old new
+Holds words old new (Refused index cause) =
+    (is_run words ≡ true) × IfSome old.left (λ bytes. (length bytes ≤ input_limit) × IsRefusedBy bytes index cause × ¬ IsUnbuilt bytes) × IsAtEnd new.left × IsUnwritten old new
 Holds words old new WriteFault =
-    (is_run words ≡ true) × IfSome old.left (λ bytes. (length bytes ≤ input_limit) × WrotePart old new bytes × EveryRunIsSafe bytes) × IsAtEnd new.left × Rose old.writes new.writes
+    (is_run words ≡ true) × IfSome old.left (λ bytes. (length bytes ≤ input_limit) × WrotePart old new bytes × EveryRunIsSafe bytes × IsTaken bytes) × IsAtEnd new.left × Rose old.writes new.writes
 Holds words old new NoMemory = (is_run words ≡ true) × TakesAtMost old.left new.left input_limit × IsUnwritten old new
 Holds words old new Done =
-    (is_run words ≡ true) × IfSome old.left (λ bytes. (length bytes ≤ input_limit) × WroteOutput old new bytes × EveryRunIsSafe bytes) × IsAtEnd new.left
+    (is_run words ≡ true) × IfSome old.left (λ bytes. (length bytes ≤ input_limit) × WroteOutput old new bytes × EveryRunIsSafe bytes × IsTaken bytes) × IsAtEnd new.left
+
+-- a cause's name, and where it holds
+unfoldable pub cause_text : Cause → List ℕ
+cause_text NoHeader = codes "NoHeader"
+cause_text UnknownKind = codes "UnknownKind"
+cause_text FieldCount = codes "FieldCount"
+cause_text (NotANumber field) = codes "NotANumber field " ++ decimal field
+cause_text (OutOfRange field) = codes "OutOfRange field " ++ decimal field
+cause_text StepsTwice = codes "StepsTwice"
+cause_text TooMany = codes "TooMany"
+cause_text NoSteps = codes "NoSteps"
+cause_text (AgentOnSegment agent segment) = codes "AgentOnSegment agent " ++ decimal agent ++ codes " segment " ++ decimal segment
 
 -- the line of each status on the error output
 unfoldable pub message_of : Status → List ℕ
 message_of Done = []
 message_of NoMemory = codes "no memory\n"
 message_of Usage = codes "usage: crowd run|check|sample|soak|live\n"
+message_of (Refused index cause) = codes "refused: record " ++ decimal index ++ codes ": " ++ cause_text cause ++ codes "\n"
 message_of ReadFault = codes "read fault\n"
 message_of WriteFault = codes "write fault\n"
 message_of TooLong = codes "input too long\n"

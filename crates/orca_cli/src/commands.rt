@@ -1,9 +1,8 @@
 // The commands that wait for nobody.
-ghost use Rattle.std.specs.Prelude.{◌≡◌, ◌≢◌, ◌↔◌, ◌⊎◌, ◌<◌, ℕ, List, map, length, IfSome, true, false, None};
+ghost use Rattle.std.specs.Prelude.{◌≡◌, ◌≢◌, ◌↔◌, ◌⊎◌, ◌<◌, ℕ, List, map, length, IfSome, true, false};
 ghost use Rattle.std.specs.Io.KnownBytes.{Appends, IsAtEnd, Keeps};
 ghost use Rattle.outside_io.specs.Causes.{AppendsPrefix, Rose};
-ghost use Rattle.orca_cli.specs.Output.{EveryRunIsSafe, IsOutput};
-ghost use Rattle.scenario_read.specs.Plain.{plain_in};
+ghost use Rattle.orca_cli.specs.Output.{EveryRunIsSafe, IsOutput, IsRefused, IsUnbuilt, is_alone};
 ghost use Rattle.orca_cli.specs.Status.{Holds, Reports, code_of, input_limit};
 ghost use Rattle.orca_cli.specs.Words.{is_run};
 ghost use Rattle.orca_cli.specs.declared.status.Status.{Status};
@@ -13,14 +12,24 @@ use crate::alone::write_run;
 use crate::status::{Status, code, report};
 use crate::words::is_run;
 use body_law::keeps_off_walls;
-use crowd_data::first_frame;
+use crowd_data::{Scenario, first_frame};
 use outside_io::{Gate, ReadAllFault, Sink, Source, read_all};
 use pair_law::pairs_keep_apart;
-use scenario_read::{PlainFault, read_plain};
+use scenario_read::{ScenarioFault, read_scenario};
 use std::alloc::Global;
 
 /// The most bytes of an input.
 const INPUT_LIMIT: usize = 16_777_216;
+
+// Whether there are at most one agent, and nothing else but the steps.
+fn is_alone(scenario: &Scenario) -> bool
+    ensures { result ≡ is_alone scenario.now }
+{
+    scenario.agents().len() <= 1
+        && scenario.segments().is_empty()
+        && scenario.posts().is_empty()
+        && scenario.goals().is_empty()
+}
 
 // Runs the command that the words name.
 fn work<S: Source, T: Sink>(alloc: Global, words: &[&str], source: &mut S, out: &mut T) -> Status
@@ -37,11 +46,15 @@ fn work<S: Source, T: Sink>(alloc: Global, words: &[&str], source: &mut S, out: 
         Err(ReadAllFault::TooLong) => return Status::TooLong,
         Err(ReadAllFault::NoMemory) => return Status::NoMemory,
     };
-    let scenario = match read_plain(alloc, bytes.items()) {
+    let scenario = match read_scenario(alloc, bytes.items()) {
         Ok(scenario) => scenario,
-        Err(PlainFault::NotPlain) => return Status::NotYet,
-        Err(PlainFault::NoMemory) => return Status::NoMemory,
+        Err(ScenarioFault::NoMemory) => return Status::NoMemory,
+        Err(ScenarioFault::NotBuilt) => return Status::NotYet,
+        Err(ScenarioFault::At { index, cause }) => return Status::Refused { index, cause },
     };
+    if !is_alone(&scenario) {
+        return Status::NotYet;
+    }
     keeps_off_walls(&scenario);
     pairs_keep_apart(&scenario);
     let Ok(advice) = advise_only(alloc, scenario.agents()) else {
@@ -68,12 +81,14 @@ fn work<S: Source, T: Sink>(alloc: Global, words: &[&str], source: &mut S, out: 
 /// | 0 | done: the input was read to its end, and the whole output was written | nothing |
 /// | 1 | want of memory; nothing was written | `no memory` |
 /// | 2 | exactly where the words are no command's; nothing was read | the usage line |
+/// | 3 | exactly where the input stands for no scenario | `refused: record R: CAUSE`, with the first cause |
 /// | 4 | only where the source's count of faults rose | `read fault` |
 /// | 5 | only where the count of faults of `out` rose; a prefix of the output was written | `write fault` |
 /// | 6 | exactly where more than 16,777,216 bytes came | `input too long` |
 /// | 8 | exactly where the input has a form that isn't built yet | `not yet` |
 ///
-/// They are tried in the order 2, 4 and 6, 8, 5. A failure of `err` changes no status.
+/// They are tried in the order 2, 4 and 6, 3 and 8, which exclude each other, 5. A failure of `err`
+/// changes no status.
 pub fn offline<S: Source, T: Sink, E: Sink, G: Gate + Sync>(
     alloc: Global,
     words: &[&str],
@@ -108,22 +123,26 @@ pub fn offline<S: Source, T: Sink, E: Sink, G: Gate + Sync>(
     ensures read_fault { result ≡ 4 → Rose (S.faults source.old) (S.faults source.new) }
     ensures write_fault { result ≡ 5 → Rose (T.faults out.old) (T.faults out.new) }
 
-    // Status 6 comes exactly where more bytes came than an input may have, and 8 exactly where they are of
-    // a form that isn't built; each yields to a status that is tried before it, and to want of memory.
+    // Status 6 comes exactly where more bytes came than an input may have, 3 exactly where they have a cause
+    // why they stand for no scenario, and 8 exactly where they are of a form that isn't built; each yields to
+    // a status that is tried before it, and to want of memory.
     ensures too_long { result ≡ 6 → IfSome (S.left source.old) (λ bytes. input_limit < length bytes) }
     ensures not_longer { IfSome (S.left source.old) (λ bytes. input_limit < length bytes → is_run (map (λ w. w.now) words.now) ≡ true
         → (result ≡ 1) ⊎ (result ≡ 4) ⊎ (result ≡ 6)) }
-    ensures not_yet { result ≡ 8 → IfSome (S.left source.old) (λ bytes. plain_in bytes ≡ None) }
-    ensures built { IfSome (S.left source.old) (λ bytes. plain_in bytes ≡ None → is_run (map (λ w. w.now) words.now) ≡ true
+    ensures refused { result ≡ 3 → IfSome (S.left source.old) IsRefused }
+    ensures accepted { IfSome (S.left source.old) (λ bytes. IsRefused bytes → is_run (map (λ w. w.now) words.now) ≡ true
+        → (result ≡ 1) ⊎ (result ≡ 4) ⊎ (result ≡ 6) ⊎ (result ≡ 3)) }
+    ensures not_yet { result ≡ 8 → IfSome (S.left source.old) IsUnbuilt }
+    ensures built { IfSome (S.left source.old) (λ bytes. IsUnbuilt bytes → is_run (map (λ w. w.now) words.now) ≡ true
         → (result ≡ 1) ⊎ (result ≡ 4) ⊎ (result ≡ 6) ⊎ (result ≡ 8)) }
 
-    // With the statuses 0, 5 and 8 the source was read to its end.
-    ensures read_whole { (result ≡ 0) ⊎ (result ≡ 5) ⊎ (result ≡ 8) → IsAtEnd (S.left source.new) }
+    // With the statuses 0, 3, 5 and 8 the source was read to its end.
+    ensures read_whole { (result ≡ 0) ⊎ (result ≡ 3) ⊎ (result ≡ 5) ⊎ (result ≡ 8) → IsAtEnd (S.left source.new) }
 
     // A command where no count of faults rises is done, unless memory is wanting or one of the exact causes
     // holds.
     ensures complete { is_run (map (λ w. w.now) words.now) ≡ true → ¬ Rose (S.faults source.old) (S.faults source.new) → ¬ Rose (T.faults out.old) (T.faults out.new)
-        → (result ≡ 0) ⊎ (result ≡ 1) ⊎ (result ≡ 6) ⊎ (result ≡ 8) }
+        → (result ≡ 0) ⊎ (result ≡ 1) ⊎ (result ≡ 3) ⊎ (result ≡ 6) ⊎ (result ≡ 8) }
 {
     let _gate = gate;
     let status = work(alloc, words, source, out);

@@ -189,20 +189,70 @@ fn input_is_one_byte_too_long(rt: HostRuntime) -> Result<(), Fail> {
 
 #[test]
 fn forms_that_are_not_built(rt: HostRuntime) -> Result<(), Fail> {
-    let inputs: [&[u8]; 7] = [
-        b"",
-        b"crowd,1\nsteps,",
-        b"crowd,2\nsteps,1\n",
-        b"crowd,1\nsteps,100001\n",
+    let inputs: [&[u8]; 4] = [
         b"crowd,1\nsteps,1\nagent,0,0,0,0,1000,0,500,66,15000,10,10,4\nagent,0,0,0,0,1000,0,500,66,15000,10,10,4\n",
-        b"crowd,1\nsteps,1\nagent,0,0,0,0,300,0,0,400,15000,0,10,4\n",
         b"crowd,1\nsteps,1\nsegment,-2000,800,2000,800\n",
+        // posts and goals, whatever else holds
+        b"crowd,1\nsteps,1\npost,1,0,0,0\n",
+        b"crowd,1\nsteps,x\ngoal,0,0,9,9,5\n",
     ];
     for input in inputs.iter() {
         let ended = run(rt.alloc(), input)?;
         assert_eq!(rt; ended.status, 8);
         assert_eq!(rt; ended.out.held(), b"".as_slice());
         assert_eq!(rt; ended.err.held(), b"not yet\n".as_slice());
+    }
+    Ok(())
+}
+
+#[test]
+fn names_the_first_cause(rt: HostRuntime) -> Result<(), Fail> {
+    let refused: [(&[u8], &[u8]); 12] = [
+        (b"", b"refused: record 0: NoHeader\n"),
+        (b"crowd,2\nsteps,1\n", b"refused: record 0: NoHeader\n"),
+        (b"crowd,1\n", b"refused: record 1: NoSteps\n"),
+        (
+            b"crowd,1\nsteps,1\ntree,1\n",
+            b"refused: record 2: UnknownKind\n",
+        ),
+        (
+            b"crowd,1\nsteps,1\nagent,0,0",
+            b"refused: record 2: FieldCount\n",
+        ),
+        (
+            b"crowd,1\nsteps,x\n",
+            b"refused: record 1: NotANumber field 1\n",
+        ),
+        (
+            b"crowd,1\nsteps,",
+            b"refused: record 1: NotANumber field 1\n",
+        ),
+        (
+            b"crowd,1\nsteps,100001\n",
+            b"refused: record 1: OutOfRange field 1\n",
+        ),
+        (
+            b"crowd,1\nsteps,1\nagent,4194305,0,0,0,0,0,500,400,15000,10,10,4\n",
+            b"refused: record 2: OutOfRange field 1\n",
+        ),
+        (
+            b"crowd,1\nsteps,1\nagent,0,0,0,0,300,0,500,400,15000,0,10,4097\n",
+            b"refused: record 2: OutOfRange field 12\n",
+        ),
+        (
+            b"crowd,1\nsteps,1\nsteps,1\n",
+            b"refused: record 2: StepsTwice\n",
+        ),
+        (
+            b"crowd,1\nsteps,1\nagent,0,0,0,0,0,0,500,400,15000,10,10,4\nsegment,-2000,499,2000,499\n",
+            b"refused: record 4: AgentOnSegment agent 0 segment 0\n",
+        ),
+    ];
+    for (input, line) in refused.iter() {
+        let ended = run(rt.alloc(), input)?;
+        assert_eq!(rt; ended.status, 3);
+        assert_eq!(rt; ended.out.held(), b"".as_slice());
+        assert_eq!(rt; ended.err.held(), *line);
     }
     Ok(())
 }

@@ -1,9 +1,8 @@
 // The top call.
-ghost use Rattle.std.specs.Prelude.{◌≡◌, ◌≢◌, ◌↔◌, ◌⊎◌, ◌<◌, ℕ, List, map, length, IfSome, true, false, None};
+ghost use Rattle.std.specs.Prelude.{◌≡◌, ◌≢◌, ◌↔◌, ◌⊎◌, ◌<◌, ℕ, List, map, length, IfSome, true, false};
 ghost use Rattle.std.specs.Io.KnownBytes.{Appends, IsAtEnd, Keeps};
 ghost use Rattle.outside_io.specs.Causes.{AppendsPrefix, Rose};
-ghost use Rattle.orca_cli.specs.Output.{EveryRunIsSafe, IsOutput};
-ghost use Rattle.scenario_read.specs.Plain.{plain_in};
+ghost use Rattle.orca_cli.specs.Output.{EveryRunIsSafe, IsOutput, IsRefused, IsUnbuilt};
 ghost use Rattle.orca_cli.specs.Status.{Holds, Reports, code_of, input_limit};
 ghost use Rattle.orca_cli.specs.Words.{is_run};
 ghost use Rattle.orca_cli.specs.declared.status.Status.{Status};
@@ -48,22 +47,26 @@ pub fn orca<S: Source, T: Sink, E: Sink, G: Gate + Sync>(
     ensures read_fault { result ≡ 4 → Rose (S.faults source.old) (S.faults source.new) }
     ensures write_fault { result ≡ 5 → Rose (T.faults out.old) (T.faults out.new) }
 
-    // Status 6 comes exactly where more bytes came than an input may have, and 8 exactly where they are of
-    // a form that isn't built; each yields to a status that is tried before it, and to want of memory.
+    // Status 6 comes exactly where more bytes came than an input may have, 3 exactly where they have a cause
+    // why they stand for no scenario, and 8 exactly where they are of a form that isn't built; each yields to
+    // a status that is tried before it, and to want of memory.
     ensures too_long { result ≡ 6 → IfSome (S.left source.old) (λ bytes. input_limit < length bytes) }
     ensures not_longer { IfSome (S.left source.old) (λ bytes. input_limit < length bytes → is_run (map (λ w. w.now) words.now) ≡ true
         → (result ≡ 1) ⊎ (result ≡ 4) ⊎ (result ≡ 6)) }
-    ensures not_yet { result ≡ 8 → IfSome (S.left source.old) (λ bytes. plain_in bytes ≡ None) }
-    ensures built { IfSome (S.left source.old) (λ bytes. plain_in bytes ≡ None → is_run (map (λ w. w.now) words.now) ≡ true
+    ensures refused { result ≡ 3 → IfSome (S.left source.old) IsRefused }
+    ensures accepted { IfSome (S.left source.old) (λ bytes. IsRefused bytes → is_run (map (λ w. w.now) words.now) ≡ true
+        → (result ≡ 1) ⊎ (result ≡ 4) ⊎ (result ≡ 6) ⊎ (result ≡ 3)) }
+    ensures not_yet { result ≡ 8 → IfSome (S.left source.old) IsUnbuilt }
+    ensures built { IfSome (S.left source.old) (λ bytes. IsUnbuilt bytes → is_run (map (λ w. w.now) words.now) ≡ true
         → (result ≡ 1) ⊎ (result ≡ 4) ⊎ (result ≡ 6) ⊎ (result ≡ 8)) }
 
-    // With the statuses 0, 5 and 8 the source was read to its end.
-    ensures read_whole { (result ≡ 0) ⊎ (result ≡ 5) ⊎ (result ≡ 8) → IsAtEnd (S.left source.new) }
+    // With the statuses 0, 3, 5 and 8 the source was read to its end.
+    ensures read_whole { (result ≡ 0) ⊎ (result ≡ 3) ⊎ (result ≡ 5) ⊎ (result ≡ 8) → IsAtEnd (S.left source.new) }
 
     // A command where no count of faults rises is done, unless memory is wanting or one of the exact causes
     // holds.
     ensures complete { is_run (map (λ w. w.now) words.now) ≡ true → ¬ Rose (S.faults source.old) (S.faults source.new) → ¬ Rose (T.faults out.old) (T.faults out.new)
-        → (result ≡ 0) ⊎ (result ≡ 1) ⊎ (result ≡ 6) ⊎ (result ≡ 8) }
+        → (result ≡ 0) ⊎ (result ≡ 1) ⊎ (result ≡ 3) ⊎ (result ≡ 6) ⊎ (result ≡ 8) }
 {
     offline(alloc, words, source, out, err, gate)
 }
