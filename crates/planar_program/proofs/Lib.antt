@@ -2,3 +2,4 @@ pub mod Steps
 pub mod Places
 pub mod Looser
 pub mod OneValue
+pub mod Existence

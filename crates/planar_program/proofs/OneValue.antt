@@ -18,7 +18,7 @@ pub record IsSame (p v : Rational) : Type 0 where
   pub across : p.x *ℤ v.q ≡ v.x *ℤ p.q
   pub along : p.y *ℤ v.q ≡ v.y *ℤ p.q
 
-square_zero : (a : ℤ) → (a *ℤ a) ≤ℤ pos 0 → a ≡ pos 0
+pub square_zero : (a : ℤ) → (a *ℤ a) ≤ℤ pos 0 → a ≡ pos 0
 square_zero (pos zero) h = refl
 square_zero (pos (suc n)) h = absurd (omega (arith, ints))
 square_zero (negsuc n) h = absurd (omega (arith, ints))
