@@ -9,11 +9,12 @@ use Rattle.std.proofs.lemmas.Option.{get_or_from_slice_get, slice_get_within}
 use Rattle.crowd_data.specs.declared.agent.Agent.{Agent}
 use Rattle.crowd_data.specs.Scenario.{Parts}
 use Rattle.crowd_data.specs.Walls.{IsClear}
+use Rattle.frame_step.specs.Sight.{sees_neighbours}
 use Rattle.scenario_read.specs.declared.cause.Cause.{Cause}
 use Rattle.scenario_read.specs.declared.cause.ScenarioFault.TheVariants.{At}
 use Rattle.scenario_read.specs.Reading.{AllClear, IsAccepted, Tells}
 use Rattle.scenario_read.specs.Records.{Record, records_of}
-use Rattle.orca_cli.specs.Output.{IsRefused, IsRefusedBy, IsUnbuilt, StandsFor, is_alone}
+use Rattle.orca_cli.specs.Output.{IsRefused, IsRefusedBy, IsUnbuilt, StandsFor}
 use Rattle.orca_cli.specs.Status.{IsTaken}
 
 at_place : {A : Type 0} (P : A → Type 0) (xs : List A) (k : ℕ) (x : A) → All P xs → slice_get xs k ≡ Some x → P x
@@ -31,17 +32,17 @@ refused_or_unbuilt : (bytes : List ℕ) (index : ℕ) (cause : Cause) → IsRefu
 refused_or_unbuilt bytes index cause (built, h) (inl posted) = cc (built, posted)
 refused_or_unbuilt bytes index cause told (inr (scenario, ok, many)) = accepted_or_refused (records_of bytes) scenario index cause ok told
 
-alone_or_unbuilt : (bytes : List ℕ) (scenario : Parts) → StandsFor bytes scenario → is_alone scenario ≡ true → IsUnbuilt bytes → ⊥
-alone_or_unbuilt bytes scenario ok few (inl posted) = cc (ok.built, posted)
-alone_or_unbuilt bytes scenario ok few (inr (other, also, many)) =
+built_or_unbuilt : (bytes : List ℕ) (scenario : Parts) → StandsFor bytes scenario → sees_neighbours scenario.agents ≡ false → IsUnbuilt bytes → ⊥
+built_or_unbuilt bytes scenario ok unseeing (inl posted) = cc (ok.built, posted)
+built_or_unbuilt bytes scenario ok unseeing (inr (other, also, many)) =
     let same : scenario ≡ other = cc (ok.read, also.read) in
-    cc (few, subst (λ (s : Parts). is_alone s ≡ false) (sym same) many)
+    cc (unseeing, subst (λ (s : Parts). sees_neighbours s.agents ≡ true) (sym same) many)
 
 -- bytes of a scenario that the step is built for
-pub is_taken : (bytes : List ℕ) (scenario : Parts) → StandsFor bytes scenario → is_alone scenario ≡ true → IsTaken bytes
-is_taken bytes scenario ok few = (
+pub is_taken : (bytes : List ℕ) (scenario : Parts) → StandsFor bytes scenario → sees_neighbours scenario.agents ≡ false → IsTaken bytes
+is_taken bytes scenario ok unseeing = (
   (λ (index, cause, told). accepted_or_refused (records_of bytes) scenario index cause ok told),
-  alone_or_unbuilt bytes scenario ok few,
+  built_or_unbuilt bytes scenario ok unseeing,
 )
 
 -- all the bytes were read

@@ -1,6 +1,5 @@
 mod TextBehind
-mod AloneMoves
-mod AloneRuns
 mod Forms
+mod Unposted
+mod Written
 mod Outputs
-mod PolygonPoints

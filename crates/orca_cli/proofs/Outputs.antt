@@ -5,16 +5,14 @@ use Rattle.std.specs.Result.{is_err}
 use Rattle.std.specs.Io.KnownBytes.{Appends, Consumes, IsAtEnd}
 use Rattle.std.proofs.KnownBytes.{Consumes-whole}
 use Rattle.outside_io.specs.Causes.{AppendsPrefix, HasCause, Rose, Wrote}
-use Rattle.fixed_vec.specs.declared.vector.V2.{V2}
-use Rattle.crowd_data.specs.declared.frame.Mark.{Mark}
 use Rattle.crowd_data.specs.Scenario.{Parts}
-use Rattle.orca_cli.specs.Alone.{text_alone}
 use Rattle.crowd_data.specs.declared.post.Post.{Post}
-use Rattle.crowd_data.specs.Run.{IsRun, Snapshot}
-use Rattle.orca_cli.specs.Output.{EveryRunIsSafe, IsOutput, IsSafeRun, StandsFor, is_alone}
+use Rattle.crowd_data.specs.Run.{IsRun, Snapshot, scripts_of}
+use Rattle.frame_step.specs.Sight.{sees_neighbours}
+use Rattle.frame_text.specs.Transcript.{IsTranscript}
+use Rattle.orca_cli.specs.Output.{EveryRunIsSafe, IsOutput, IsSafeRun, StandsFor}
 use Rattle.orca_cli.specs.Status.{IsTaken}
 use Rattle.orca_cli.proofs.Forms.{is_taken}
-use Rattle.orca_cli.proofs.AloneRuns.{IsAdvisedOnly, output_is}
 
 wrote_ok : {T E : Type 0} (a b : Option (List ℕ)) (r : Result T E) (text : List ℕ) → is_err r ≡ false → Wrote a b r text → Appends a b text
 wrote_ok a b (Ok v) text fine w = w
@@ -35,18 +33,21 @@ safe_bytes bytes scenario e law other f lists frames run =
     let same : scenario ≡ other = cc (e.read, f.read) in
     subst (λ (s : Parts). IsRun s lists frames → IsSafeRun s frames) same (law lists frames) run
 
--- all the bytes were read, and they stand for a scenario of at most one agent, which has this advice
-module _ (vel : V2) (mark : Mark) (left after : Option (List ℕ)) (bytes : List ℕ) (limit : ℕ) (all : Consumes left after bytes) (end : IsAtEnd after) (short : length bytes ≤ limit) (scenario : Parts) (stands : StandsFor bytes scenario) (few : is_alone scenario ≡ true)
-    (advised : IsAdvisedOnly vel mark scenario.agents) (law : (lists : List (List Post)) → (frames : List Snapshot) → IsRun scenario lists frames → IsSafeRun scenario frames)
-    {T E : Type 0} (a b : Option (List ℕ)) (r : Result T E) (w : Wrote a b r (text_alone vel mark scenario)) where
+-- all the bytes were read, they stand for a scenario that a stepper is built for, and this is the transcript of its run
+module _ (left after : Option (List ℕ)) (bytes : List ℕ) (limit : ℕ) (all : Consumes left after bytes) (end : IsAtEnd after) (short : length bytes ≤ limit) (scenario : Parts) (stands : StandsFor bytes scenario) (unseeing : sees_neighbours scenario.agents ≡ false)
+    (law : (lists : List (List Post)) → (frames : List Snapshot) → IsRun scenario lists frames → IsSafeRun scenario frames)
+    {T E : Type 0} (a b : Option (List ℕ)) (r : Result T E) (held : Parts) (same : held ≡ scenario) (wrote : (text : List ℕ) × IsTranscript held (scripts_of held) text × Wrote a b r text) where
+  is_output : IsOutput bytes wrote.0
+  is_output = (scenario, stands, subst (λ s. IsTranscript s (scripts_of s) wrote.0) same wrote.1)
+
   -- its output was written
   pub written : is_err r ≡ false → IfSome left (λ whole. (length whole ≤ limit) × ((text : List ℕ) × IsOutput whole text × Appends a b text) × EveryRunIsSafe whole × IsTaken whole)
   written fine =
       Consumes-whole left after bytes (λ whole. (length whole ≤ limit) × ((text : List ℕ) × IsOutput whole text × Appends a b text) × EveryRunIsSafe whole × IsTaken whole) all end
-      (short, (text_alone vel mark scenario, output_is vel mark bytes scenario stands few advised, wrote_ok a b r _ fine w), safe_bytes bytes scenario stands law, is_taken bytes scenario stands few)
+      (short, (wrote.0, is_output, wrote_ok a b r _ fine wrote.2), safe_bytes bytes scenario stands law, is_taken bytes scenario stands unseeing)
 
   -- a prefix of its output was written
   pub cut_short : is_err r ≡ true → IfSome left (λ whole. (length whole ≤ limit) × ((text : List ℕ) × IsOutput whole text × AppendsPrefix a b text) × EveryRunIsSafe whole × IsTaken whole)
   cut_short failed =
       Consumes-whole left after bytes (λ whole. (length whole ≤ limit) × ((text : List ℕ) × IsOutput whole text × AppendsPrefix a b text) × EveryRunIsSafe whole × IsTaken whole) all end
-      (short, (text_alone vel mark scenario, output_is vel mark bytes scenario stands few advised, wrote_err a b r _ failed w), safe_bytes bytes scenario stands law, is_taken bytes scenario stands few)
+      (short, (wrote.0, is_output, wrote_err a b r _ failed wrote.2), safe_bytes bytes scenario stands law, is_taken bytes scenario stands unseeing)

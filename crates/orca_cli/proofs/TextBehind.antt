@@ -1,43 +1,78 @@
--- The text of the frames behind a frame, one frame at a time.
-use Rattle.std.proofs.Common.{◌≡◌, ◌∙◌, ◌<◌, ◌≤◌, ◌+◌, ◌-◌, ◌++◌, List, [], ℕ, zero, suc, refl, sym, ap, arith, append_assoc}
-use Rattle.std.specs.declared.option.Option.{Option}
-use Rattle.std.specs.Io.KnownBytes.{Appends}
-use Rattle.outside_io.specs.Causes.{AppendsPrefix}
-use Rattle.outside_io.proofs.WroteLemmas.{prefix_longer, prefix_then}
-use Rattle.fixed_vec.specs.declared.vector.V2.{V2}
-use Rattle.crowd_data.specs.declared.frame.Mark.{Mark}
-use Rattle.crowd_data.specs.Run.{Snapshot, start_of}
+-- The text of the frames behind a frame, one frame at a time, and that of a whole run.
+use Rattle.std.proofs.Common.{⊎_elim, ◌≡◌, ◌∙◌, ◌≤◌, ◌+◌, ◌-◌, ◌++◌, List, [], ◌∷◌, ℕ, zero, suc, false, refl, sym, ap, subst, arith, append_assoc}
+use Rattle.std.proofs.lemmas.Bool.{cases_lt}
+use Rattle.crowd_data.specs.declared.post.Post.{Post}
+use Rattle.crowd_data.specs.Run.{Follow, IsNext, Snapshot, script_of, scripted_from, scripts_from, scripts_of, start_of}
 use Rattle.crowd_data.specs.Scenario.{Parts}
-use Rattle.frame_text.specs.Transcript.{frame_text, scenario_text}
-use Rattle.orca_cli.specs.Alone.{moved_frame, text_alone, text_behind}
+use Rattle.frame_step.specs.Sight.{sees_neighbours}
+use Rattle.frame_step.proofs.NextFrame.{some_next}
+use Rattle.frame_text.specs.Lines.{end_line}
+use Rattle.frame_text.specs.Transcript.{IsTranscript, frame_text, frames_text, last_number, scenario_text}
+use Rattle.orca_cli.specs.Behind.{IsTextBehind}
 
-next_text : (vel : V2) (mark : Mark) (left : ℕ) (f : Snapshot) → 0 < left
-    → text_behind vel mark left f ≡ frame_text (moved_frame vel mark f) [] ++ text_behind vel mark (left - 1) (moved_frame vel mark f)
-next_text vel mark zero f h = absurd (omega arith)
-next_text vel mark (suc left) f h =
-    let e : suc left - 1 ≡ left = omega arith in ap (λ n. frame_text (moved_frame vel mark f) [] ++ text_behind vel mark n (moved_frame vel mark f)) (sym e)
+module _ (scenario : Parts) where
+  -- the text of so many frames behind a frame
+  IsTextOf : ℕ → ℕ → Snapshot → List ℕ → Type 0
+  IsTextOf first left frame text =
+      (rest : List Snapshot) × Follow scenario frame (scripts_from scenario first left) rest × (text ≡ frames_text (scripts_from scenario first left) rest ++ end_line (last_number (frame ∷ rest)))
 
-module _ (vel : V2) (mark : Mark) (steps turn : ℕ) (whole done : List ℕ) (f next : Snapshot) (is : next ≡ moved_frame vel mark f) (h : turn < steps) (e : whole ≡ done ++ text_behind vel mark (steps - turn) f) where
-  -- after one more frame
-  pub more_text : whole ≡ (done ++ frame_text next []) ++ text_behind vel mark (steps - (turn + 1)) next
-  more_text =
-      let left : steps - turn - 1 ≡ steps - (turn + 1) = omega arith in
-      rw is
-      (e ∙ ap (λ t. done ++ t) (next_text vel mark (steps - turn) f (omega arith))
-      ∙ sym (append_assoc done (frame_text (moved_frame vel mark f) []) (text_behind vel mark (steps - turn - 1) (moved_frame vel mark f)))
-      ∙ ap (λ n. (done ++ frame_text (moved_frame vel mark f) []) ++ text_behind vel mark n (moved_frame vel mark f)) left)
+  -- no frame is left
+  pub behind_none : (frame : Snapshot) → scenario.steps ≤ frame.number → IsTextBehind scenario frame (end_line frame.number)
+  unfolding IsTextOf
+  behind_none frame h =
+      let none : 0 ≡ scenario.steps - frame.number = omega arith in
+      subst (λ left. IsTextOf (frame.number + 1) left frame (end_line frame.number)) none ([], tt, refl)
 
-  -- a refusal in the midst leaves a prefix of the whole
-  pub prefix_text : (a b c : Option (List ℕ)) → Appends a b done → AppendsPrefix b c (frame_text next []) → AppendsPrefix a c whole
-  prefix_text a b c held p =
-      rw more_text (prefix_longer a c (done ++ frame_text next []) (text_behind vel mark (steps - (turn + 1)) next) (prefix_then a b c done (frame_text next []) held p))
+  module _ (unposted : scenario.posts ≡ []) where
+    no_script : (number : ℕ) → [] ≡ script_of scenario number
+    no_script number = ap (λ posts. scripted_from 0 posts number) (sym unposted)
 
--- the end: no frame is left
-pub last_text : (vel : V2) (mark : Mark) (steps turn : ℕ) (whole done : List ℕ) (f : Snapshot) → steps ≤ turn → whole ≡ done ++ text_behind vel mark (steps - turn) f
-    → whole ≡ done ++ text_behind vel mark 0 f
-last_text vel mark steps turn whole done f h e = let none : steps - turn ≡ 0 = omega arith in e ∙ ap (λ n. done ++ text_behind vel mark n f) none
+    -- one more frame
+    pub behind_more : (frame next : Snapshot) (text : List ℕ) → IsNext scenario frame [] next → IsTextBehind scenario next text
+        → IsTextBehind scenario frame (frame_text next [] ++ text)
+    unfolding IsTextOf
+    behind_more frame next text step (rest, follow, is) =
+        let number : next.number ≡ frame.number + 1 = step.number in
+        let left : suc (scenario.steps - next.number) ≡ scenario.steps - frame.number = omega (arith, step.below, number) in
+        let behind : IsTextOf (frame.number + 1 + 1) (scenario.steps - next.number) next text = subst (λ n. IsTextOf (n + 1) (scenario.steps - next.number) next text) number (rest, follow, is) in
+        subst (λ n. IsTextOf (frame.number + 1) n frame (frame_text next [] ++ text)) left
+        (subst (λ (posts : List Post). (more : List Snapshot) × Follow scenario frame (posts ∷ scripts_from scenario (frame.number + 1 + 1) (scenario.steps - next.number)) more
+        × (frame_text next [] ++ text ≡ frames_text (posts ∷ scripts_from scenario (frame.number + 1 + 1) (scenario.steps - next.number)) more ++ end_line (last_number (frame ∷ more))))
+        (no_script (frame.number + 1)) (
+          next ∷ behind.0,
+          (step, behind.1),
+          ap (λ t. frame_text next [] ++ t) behind.2 ∙ sym (append_assoc (frame_text next []) (frames_text (scripts_from scenario (frame.number + 1 + 1) (scenario.steps - next.number)) behind.0) (end_line (last_number (next ∷ behind.0)))),
+        ))
 
--- the whole text, from the frame that a run begins with
-pub same_start : (vel : V2) (mark : Mark) (scenario : Parts) (first : Snapshot) → first ≡ start_of scenario
-    → text_alone vel mark scenario ≡ scenario_text scenario ++ (frame_text first [] ++ text_behind vel mark scenario.steps first)
-same_start vel mark scenario first e = rw e refl
+    -- there is one, whatever the frame
+    pub some_behind : sees_neighbours scenario.agents ≡ false → (frame : Snapshot) → (text : List ℕ) × IsTextBehind scenario frame text
+    some_behind unseeing frame = by (scenario.steps - frame.number) frame (omega arith)
+      where
+        by : (left : ℕ) (frame : Snapshot) → scenario.steps - frame.number ≤ left → (text : List ℕ) × IsTextBehind scenario frame text
+        by zero frame h = (end_line frame.number, behind_none frame (omega arith))
+        by (suc left) frame h = ⊎_elim
+            (λ below.
+            let (next, step) = some_next scenario frame below unseeing in
+            let (text, behind) = by left next (omega (arith, step.number)) in
+            (frame_text next [] ++ text, behind_more frame next text step behind))
+            (λ over. (end_line frame.number, behind_none frame over))
+            (cases_lt frame.number scenario.steps)
+
+  -- the text of a whole run
+  pub whole_text : (first : Snapshot) (text : List ℕ) → first ≡ start_of scenario → IsTextBehind scenario first text
+      → IsTranscript scenario (scripts_of scenario) (scenario_text scenario ++ (frame_text first [] ++ text))
+  unfolding IsTextOf
+  whole_text first text e behind = rw e (by (subst (λ f. IsTextBehind scenario f text) e behind))
+    where
+      by : IsTextBehind scenario (start_of scenario) text → IsTranscript scenario (scripts_of scenario) (scenario_text scenario ++ (frame_text (start_of scenario) [] ++ text))
+      by behind =
+          let all : scenario.steps - 0 ≡ scenario.steps = omega arith in
+          let (rest, follow, is) : IsTextOf 1 scenario.steps (start_of scenario) text = subst (λ left. IsTextOf 1 left (start_of scenario) text) all behind in
+          let frames = frames_text (scripts_of scenario) rest in
+          let last = end_line (last_number (start_of scenario ∷ rest)) in (
+            start_of scenario ∷ rest,
+            (refl, follow),
+            ap (λ t. scenario_text scenario ++ (frame_text (start_of scenario) [] ++ t)) is
+                ∙ ap (λ t. scenario_text scenario ++ t) (sym (append_assoc (frame_text (start_of scenario) []) frames last))
+                ∙ sym (append_assoc (scenario_text scenario) (frame_text (start_of scenario) [] ++ frames) last),
+          )

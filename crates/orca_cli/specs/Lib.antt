@@ -1,5 +1,4 @@
 pub mod Words
 pub mod Output
-pub mod ReadBack
-pub mod Alone
+pub mod Behind
 pub mod Status

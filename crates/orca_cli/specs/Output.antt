@@ -1,9 +1,10 @@
 -- What `run` writes for the bytes that it reads, and which bytes it doesn't take.
-use Rattle.std.specs.Prelude.{◌≡◌, ◌⊎◌, ℕ, ◌==◌, ◌&&◌, Bool, true, false, nat_le, List, length}
+use Rattle.std.specs.Prelude.{◌≡◌, ◌⊎◌, ℕ, true, List}
 use Rattle.crowd_data.specs.declared.post.Post.{Post}
 use Rattle.crowd_data.specs.Run.{IsRun, Snapshot, scripts_of}
 use Rattle.crowd_data.specs.SafeSteps.{EachStep, KeepsOffWalls, PairsKeepApart}
 use Rattle.crowd_data.specs.Scenario.{Parts}
+use Rattle.frame_step.specs.Sight.{sees_neighbours}
 use Rattle.frame_text.specs.Transcript.{IsTranscript}
 use Rattle.scenario_read.specs.declared.cause.Cause.{Cause}
 use Rattle.scenario_read.specs.declared.cause.ScenarioFault.TheVariants.{At}
@@ -22,14 +23,10 @@ IsRefusedBy bytes index cause = Tells (records_of bytes) (At index cause)
 abbrev pub IsRefused : List ℕ → Type 0
 IsRefused bytes = (index : ℕ) × (cause : Cause) × IsRefusedBy bytes index cause
 
--- at most one agent, and nothing else but the steps
-abbrev pub is_alone : Parts → Bool
-is_alone scenario =
-    nat_le (length scenario.agents) 1 && ((length scenario.segments == 0) && ((length scenario.posts == 0) && (length scenario.goals == 0)))
-
--- a form that isn't built: records of posts or goals, or a scenario of several agents or of segments
+-- a form that isn't built: records of posts or goals, or a scenario of two agents or more, one of which looks
+-- for neighbours
 abbrev pub IsUnbuilt : List ℕ → Type 0
-IsUnbuilt bytes = (has_unbuilt (records_of bytes) ≡ true) ⊎ ((scenario : Parts) × StandsFor bytes scenario × (is_alone scenario ≡ false))
+IsUnbuilt bytes = (has_unbuilt (records_of bytes) ≡ true) ⊎ ((scenario : Parts) × StandsFor bytes scenario × (sees_neighbours scenario.agents ≡ true))
 
 -- a text is the defined output for bytes: the transcript of their scenario's run with its scripted posts
 abbrev pub IsOutput : List ℕ → List ℕ → Type 0

@@ -2,17 +2,16 @@
 ghost use Rattle.std.specs.Prelude.{◌≡◌, ◌≢◌, ◌↔◌, ◌⊎◌, ◌<◌, ℕ, List, map, length, IfSome, true, false};
 ghost use Rattle.std.specs.Io.KnownBytes.{Appends, IsAtEnd, Keeps};
 ghost use Rattle.outside_io.specs.Causes.{AppendsPrefix, Rose};
-ghost use Rattle.orca_cli.specs.Output.{EveryRunIsSafe, IsOutput, IsRefused, IsUnbuilt, is_alone};
+ghost use Rattle.orca_cli.specs.Output.{EveryRunIsSafe, IsOutput, IsRefused, IsUnbuilt};
 ghost use Rattle.orca_cli.specs.Status.{Holds, Reports, code_of, input_limit};
 ghost use Rattle.orca_cli.specs.Words.{is_run};
 ghost use Rattle.orca_cli.specs.declared.status.Status.{Status};
 
-use crate::advice::advise_only;
-use crate::alone::write_run;
+use crate::run::write_run;
 use crate::status::{Status, code, report};
 use crate::words::is_run;
 use body_law::keeps_off_walls;
-use crowd_data::{Scenario, first_frame};
+use frame_step::{Stepper, sees_neighbours};
 use outside_io::{Gate, ReadAllFault, Sink, Source, read_all};
 use pair_law::pairs_keep_apart;
 use scenario_read::{ScenarioFault, read_scenario};
@@ -20,16 +19,6 @@ use std::alloc::Global;
 
 /// The most bytes of an input.
 const INPUT_LIMIT: usize = 16_777_216;
-
-// Whether there are at most one agent, and nothing else but the steps.
-fn is_alone(scenario: &Scenario) -> bool
-    ensures { result ≡ is_alone scenario.now }
-{
-    scenario.agents().len() <= 1
-        && scenario.segments().is_empty()
-        && scenario.posts().is_empty()
-        && scenario.goals().is_empty()
-}
 
 // Runs the command that the words name.
 fn work<S: Source, T: Sink>(alloc: Global, words: &[&str], source: &mut S, out: &mut T) -> Status
@@ -52,18 +41,15 @@ fn work<S: Source, T: Sink>(alloc: Global, words: &[&str], source: &mut S, out: 
         Err(ScenarioFault::NotBuilt) => return Status::NotYet,
         Err(ScenarioFault::At { index, cause }) => return Status::Refused { index, cause },
     };
-    if !is_alone(&scenario) {
+    if sees_neighbours(scenario.agents()) {
         return Status::NotYet;
     }
     keeps_off_walls(&scenario);
     pairs_keep_apart(&scenario);
-    let Ok(advice) = advise_only(alloc, scenario.agents()) else {
+    let Ok(mut stepper) = Stepper::open(alloc, scenario) else {
         return Status::NoMemory;
     };
-    let Ok(mut frame) = first_frame(alloc, &scenario) else {
-        return Status::NoMemory;
-    };
-    if write_run(out, &scenario, &mut frame, advice).is_err() {
+    if write_run(out, &mut stepper).is_err() {
         return Status::WriteFault;
     }
     Status::Done

@@ -1,10 +1,8 @@
 //! The top call: the words of a command, bytes in, bytes out, and a status.
 #![tactic(auto)]
 
-mod advice;
-mod alone;
 mod commands;
-mod polygon;
+mod run;
 mod status;
 mod top_call;
 mod words;
@@ -14,3 +12,5 @@ pub use top_call::orca;
 
 #[cfg(test)]
 mod tests;
+#[cfg(test)]
+mod wall_tests;

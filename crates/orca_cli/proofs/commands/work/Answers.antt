@@ -1,40 +1,10 @@
-use Rattle.std.proofs.Common.{◌∙◌, refl, sym, inr}
+use Rattle.std.proofs.Common.{◌≡◌, ◌∙◌, true, false, refl, sym, subst, inr}
 use Rattle.std.proofs.KnownBytes.{Keeps-refl}
-use Rattle.orca_cli.proofs.AloneRuns.{lone_alone, small_start}
+use Rattle.frame_step.specs.Sight.{sees_neighbours}
 use Rattle.orca_cli.proofs.Forms.{refused, unbuilt}
 use Rattle.orca_cli.proofs.Outputs.{cut_short, rose_err, written}
+use Rattle.orca_cli.proofs.Unposted.{unposted}
 use Rattle.orca_cli.proofs.commands.work.Goals as goal
-
-pub write_run-requires-clause-small : goal.write_run-requires-clause-small
-write_run-requires-clause-small g c =
-    let few = sym c.is_alone.ensures ∙ c.if-not-is_alone.false in
-    let advised = rw c.agents.ensures.value at c.in-Ok-advise_only.ensures.advised in
-    rw c.in-Ok-first_frame.ensures (small_start c.in-Ok-read_scenario.scenario c.agents.ensures.valid (lone_alone _ _ c.in-Ok-read_scenario.scenario few advised).one)
-
-pub returns-then-is_err : goal.returns-then-is_err
-returns-then-is_err g c =
-    let read = c.in-Ok.ensures in
-    let stands = rw c.items.ensures at c.in-Ok-read_scenario.ensures.accepted in
-    let few = sym c.is_alone.ensures ∙ c.if-not-is_alone.false in
-    let advised = rw c.agents.ensures.value at c.in-Ok-advise_only.ensures.advised in
-    let failed = sym c.is_err.ensures.value ∙ c.if-is_err.true in (
-      sym c.is_run.ensures ∙ c.if-not-is_run.false,
-      cut_short _ _ _ _ c.in-Ok.bytes.items _ read.all read.end read.short c.in-Ok-read_scenario.scenario stands few advised (λ lists frames run. (c.keeps_off_walls.ensures lists frames run, c.pairs_keep_apart.ensures lists frames run)) _ _ c.write_run.result c.write_run.ensures.text failed,
-      read.end,
-      rose_err _ _ _ failed c.write_run.ensures.cause,
-    )
-
-pub returns : goal.returns
-returns g c =
-    let read = c.in-Ok.ensures in
-    let stands = rw c.items.ensures at c.in-Ok-read_scenario.ensures.accepted in
-    let few = sym c.is_alone.ensures ∙ c.if-not-is_alone.false in
-    let advised = rw c.agents.ensures.value at c.in-Ok-advise_only.ensures.advised in
-    let fine = sym c.is_err.ensures.value ∙ c.if-is_err.false in (
-      sym c.is_run.ensures ∙ c.if-not-is_run.false,
-      written _ _ _ _ c.in-Ok.bytes.items _ read.all read.end read.short c.in-Ok-read_scenario.scenario stands few advised (λ lists frames run. (c.keeps_off_walls.ensures lists frames run, c.pairs_keep_apart.ensures lists frames run)) _ _ c.write_run.result c.write_run.ensures.text fine,
-      read.end,
-    )
 
 pub returns-in-Err-At : goal.returns-in-Err-At
 returns-in-Err-At g c =
@@ -46,13 +16,43 @@ returns-in-Err-At g c =
       (Keeps-refl _, refl),
     )
 
-pub returns-then-not-is_alone : goal.returns-then-not-is_alone
-returns-then-not-is_alone g c =
+pub returns-then-sees_neighbours : goal.returns-then-sees_neighbours
+returns-then-sees_neighbours g c =
     let read = c.in-Ok.ensures in
     let stands = rw c.items.ensures at c.in-Ok-read_scenario.ensures.accepted in
-    let many = sym c.is_alone.ensures ∙ c.if-not-is_alone.true in (
+    let sees : sees_neighbours c.in-Ok-read_scenario.scenario.agents ≡ true = subst (λ agents. sees_neighbours agents ≡ true) c.agents.ensures.value (sym c.sees_neighbours.ensures ∙ c.if-sees_neighbours.true) in (
       sym c.is_run.ensures ∙ c.if-not-is_run.false,
-      unbuilt _ _ c.in-Ok.bytes.items _ read.all read.end read.short (inr (c.in-Ok-read_scenario.scenario, stands, many)),
+      unbuilt _ _ c.in-Ok.bytes.items _ read.all read.end read.short (inr (c.in-Ok-read_scenario.scenario, stands, sees)),
       read.end,
       (Keeps-refl _, refl),
+    )
+
+pub write_run-requires-clause-unposted : goal.write_run-requires-clause-unposted
+write_run-requires-clause-unposted g c =
+    let stands = rw c.items.ensures at c.in-Ok-read_scenario.ensures.accepted in
+    rw (c.in-Ok-open.ensures.scenario) (unposted _ c.in-Ok-read_scenario.scenario stands)
+
+pub returns-then-is_err : goal.returns-then-is_err
+returns-then-is_err g c =
+    let read = c.in-Ok.ensures in
+    let stands = rw c.items.ensures at c.in-Ok-read_scenario.ensures.accepted in
+    let unseeing : sees_neighbours c.in-Ok-read_scenario.scenario.agents ≡ false = subst (λ agents. sees_neighbours agents ≡ false) c.agents.ensures.value (sym c.sees_neighbours.ensures ∙ c.if-sees_neighbours.false) in
+    let failed = sym c.is_err.ensures.value ∙ c.if-is_err.true in (
+      sym c.is_run.ensures ∙ c.if-not-is_run.false,
+      cut_short _ _ c.in-Ok.bytes.items _ read.all read.end read.short c.in-Ok-read_scenario.scenario stands unseeing (λ lists frames run. (c.keeps_off_walls.ensures lists frames run, c.pairs_keep_apart.ensures lists frames run))
+          _ _ c.write_run.result _ c.in-Ok-open.ensures.scenario c.write_run.ensures.text failed,
+      read.end,
+      rose_err _ _ _ failed c.write_run.ensures.cause,
+    )
+
+pub returns : goal.returns
+returns g c =
+    let read = c.in-Ok.ensures in
+    let stands = rw c.items.ensures at c.in-Ok-read_scenario.ensures.accepted in
+    let unseeing : sees_neighbours c.in-Ok-read_scenario.scenario.agents ≡ false = subst (λ agents. sees_neighbours agents ≡ false) c.agents.ensures.value (sym c.sees_neighbours.ensures ∙ c.if-sees_neighbours.false) in
+    let fine = sym c.is_err.ensures.value ∙ c.if-is_err.false in (
+      sym c.is_run.ensures ∙ c.if-not-is_run.false,
+      written _ _ c.in-Ok.bytes.items _ read.all read.end read.short c.in-Ok-read_scenario.scenario stands unseeing (λ lists frames run. (c.keeps_off_walls.ensures lists frames run, c.pairs_keep_apart.ensures lists frames run))
+          _ _ c.write_run.result _ c.in-Ok-open.ensures.scenario c.write_run.ensures.text fine,
+      read.end,
     )

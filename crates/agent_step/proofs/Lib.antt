@@ -1,0 +1,5 @@
+mod PolygonPoints
+pub mod FreeMoves
+mod CrowdPlaces
+mod NearPlaces
+mod FirstFrames

@@ -1,0 +1,48 @@
+-- What is known of a point of the speed polygon.
+use Rattle.std.proofs.Common.{◌≡◌, ◌∙◌, ⊎_elim, ◌≤◌, ◌+◌, ◌*◌, ◌++◌, append-nil, List, ℕ, subst, sym, arith, length, Some, ℤ, pos, ◌*ℤ◌, ◌≤ℤ◌, unsigned_abs, mul-le-mul}
+use Rattle.std.specs.List.{All}
+use Rattle.std.specs.Prelude.{slice_get}
+use Rattle.std.proofs.lemmas.Bool.{cases_lt}
+use Rattle.std.proofs.lemmas.Int.{ints}
+use Rattle.std.proofs.lemmas.List.{drop_all, take_all}
+use Rattle.fixed_vec.specs.declared.vector.V2.{V2}
+use Rattle.fixed_vec.specs.Vector.{square}
+use Rattle.fixed_vec.specs.HalfPlane.{Plane}
+use Rattle.fixed_vec.specs.Meeting.{Nearest, relieved_after}
+use Rattle.fixed_vec.specs.Point.{IsIn, Rational}
+use Rattle.crowd_data.specs.Limits.{IsVelocity}
+use Rattle.crowd_data.specs.RingPlanes.{ring_planes, ring_planes_of, ring_points}
+use Rattle.hard_plane.proofs.RingPoints.{ring_planes_of-plain}
+use Rattle.hard_plane.proofs.Sizes.{square_abs}
+use Rattle.body_law.proofs.Lists.{front_of}
+
+-- where all half-planes are hard, none is relieved
+relieved_after-all : (planes : List Plane) → relieved_after (length planes) 0 planes ≡ planes
+relieved_after-all planes =
+    rw (take_all (length planes) planes (omega arith), drop_all (length planes) planes (omega arith)) (append-nil planes)
+
+-- the nearest point among the polygon and walls is in each half-plane of the ring
+pub nearest_in_ring : (radius : ℤ) (points : List V2) (speed : ℕ) (planes walls : List Plane) (pref : V2) (p : Rational) → radius ≡ pos 65 → points ≡ ring_points → planes ≡ ring_planes speed ++ walls
+    → Nearest (relieved_after (length planes) 0 planes) pref p → All (λ plane. IsIn plane p) (ring_planes_of radius points speed)
+nearest_in_ring radius points speed planes walls pref p e f g h =
+    let inside = (subst (λ (list : List Plane). Nearest list pref p) (relieved_after-all planes ∙ g) h).meets.inside in
+    subst (λ (list : List Plane). All (λ plane. IsIn plane p) list) (sym (ring_planes_of-plain radius points speed e f))
+    (front_of (λ plane. IsIn plane p) (ring_planes speed) walls inside)
+
+-- the k-th half-plane of the plain ring is that of the speed polygon
+pub polygon_item : (radius : ℤ) (points : List V2) (speed k : ℕ) (plane : Plane) → radius ≡ pos 65 → points ≡ ring_points
+    → slice_get (ring_planes_of radius points speed) k ≡ Some plane → slice_get (ring_planes speed) k ≡ Some plane
+polygon_item radius points speed k plane e f h = subst (λ (planes : List Plane). slice_get planes k ≡ Some plane) (ring_planes_of-plain radius points speed e f) h
+
+-- ---- a velocity that is no longer than a speed
+
+root_most : (a b : ℕ) → a * a ≤ b * b → a ≤ b
+root_most a b h = ⊎_elim (λ k. let p : b + 1 ≤ a = omega arith in absurd (omega (arith, mul-le-mul p p))) (λ k. k) (cases_lt b a)
+
+pub short_velocity : (v : V2) (speed : ℕ) → speed ≤ 16384 → square v ≤ℤ (pos speed *ℤ pos speed) → IsVelocity v
+short_velocity v speed most h =
+    let e = square_abs v.x in
+    let f = square_abs v.y in
+    let across : unsigned_abs v.x ≤ speed = root_most (unsigned_abs v.x) speed (omega (arith, ints)) in
+    let along : unsigned_abs v.y ≤ speed = root_most (unsigned_abs v.y) speed (omega (arith, ints)) in
+    (omega arith, omega arith)

@@ -1,0 +1,34 @@
+// Room for the half-planes of one agent.
+ghost use Rattle.std.specs.Prelude.{◌≤◌, ◌+◌, IfOk};
+
+use fixed_vec::{HalfPlane, List, NoMemory};
+use std::alloc::Global;
+use std::marker::Model;
+
+/// Room for the half-planes of one agent, which is used again for each agent and step. Clauses see how
+/// many half-planes it has room for.
+#[derive(Drop)]
+pub struct Scratch {
+    pub(crate) planes: List<HalfPlane>,
+}
+
+impl Model for Scratch {
+    ghost use Rattle.std.specs.Prelude.{ℕ, ◌+◌, length};
+
+    ghost Value = { ℕ };
+
+    ghost view = { λ s. length s.planes.items + s.planes.spare };
+}
+
+impl Scratch {
+    /// Room for an agent among so many segments, 0 to 2,000 of them. `NoMemory` is answered for want of
+    /// memory alone.
+    pub fn open(alloc: Global, segments: usize) -> Result<Scratch, NoMemory>
+        requires { segments ≤ 2000 }
+        ensures { IfOk result (λ s. segments + 36 ≤ s) }
+    {
+        Ok(Scratch {
+            planes: List::with_room(alloc, segments + 36)?,
+        })
+    }
+}

@@ -1,0 +1,4 @@
+pub mod Unseen
+mod MovedBodies
+pub mod NextFrame
+mod Present

@@ -1,0 +1,13 @@
+//! The frames of a run: a stepper holds the present frame of a scenario, and makes the next one from it.
+#![tactic(auto)]
+
+mod moves;
+mod places;
+mod sight;
+mod stepper;
+
+pub use sight::sees_neighbours;
+pub use stepper::Stepper;
+
+#[cfg(test)]
+mod tests;

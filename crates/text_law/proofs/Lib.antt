@@ -1,0 +1,6 @@
+mod Numerals
+mod Rows
+mod Lines
+mod Values
+mod Taken
+mod Accepted

@@ -1,0 +1,65 @@
+-- The fields of a row spell the numbers that it was printed from.
+use Rattle.std.proofs.Common.{◌≡◌, ◌∙◌, ◌<◌, ◌≤◌, ◌^◌, ◌&&◌, ap, refl, ℕ, true, arith, Some, ℤ, pos, neg_ℤ, ◌≤ℤ◌, int_le, unsigned_abs, Ok}
+use Rattle.std.specs.Fmt.{decimal, signed_decimal}
+use Rattle.std.proofs.lemmas.Int.{ints}
+use Rattle.csv.specs.Records.{field_at}
+use Rattle.fixed_vec.specs.declared.vector.V2.{V2}
+use Rattle.crowd_data.specs.declared.agent.Agent.{Agent}
+use Rattle.crowd_data.specs.declared.segment.Segment.{Segment}
+use Rattle.crowd_data.specs.Limits.{IsAgent, IsSegment, IsWithin}
+use Rattle.scenario_read.specs.Fields.{field_text}
+use Rattle.scenario_read.specs.Numbers.{number_of}
+use Rattle.scenario_read.specs.Reading.{agent_of, agent_with, count_in, motion_in, number_in, segment_of, steps_of, vector_in}
+use Rattle.scenario_read.specs.Records.{Record}
+use Rattle.text_law.proofs.Lines.{agent_row, segment_row, steps_row}
+use Rattle.text_law.proofs.Numerals.{decimal_read, signed_read}
+
+-- ---- a field
+
+within_limits : (low high z : ℤ) → low ≤ℤ z → z ≤ℤ high → (int_le low z && int_le z high) ≡ true
+within_limits low high z p q = grind (arith, ints)
+
+number_in_is : (fields : Record) (k : ℕ) (low high z : ℤ) → number_of (field_text fields k) ≡ Some z → low ≤ℤ z → z ≤ℤ high → number_in fields k low high ≡ Ok z
+number_in_is fields k low high z e p q = rw (e, within_limits low high z p q) refl
+
+count_is : (fields : Record) (k least most n : ℕ) → field_text fields k ≡ decimal n → least ≤ n → n ≤ most → most < 10 ^ 18 → count_in fields k least most ≡ Ok n
+unfolding count_in
+count_is fields k least most n e p q small =
+    rw (number_in_is fields k (pos least) (pos most) (pos n) (ap number_of e ∙ decimal_read n (omega arith)) (omega (arith, ints)) (omega (arith, ints))) refl
+
+coordinate_is : (fields : Record) (k most : ℕ) (z : ℤ) → field_text fields k ≡ signed_decimal z → unsigned_abs z ≤ most → most < 10 ^ 18
+    → number_in fields k (neg_ℤ (pos most)) (pos most) ≡ Ok z
+coordinate_is fields k most z e p small =
+    number_in_is fields k (neg_ℤ (pos most)) (pos most) z (ap number_of e ∙ signed_read z (omega arith)) (omega (arith, ints)) (omega (arith, ints))
+
+vector_is : (fields : Record) (k l most : ℕ) (v : V2) → field_text fields k ≡ signed_decimal v.x → field_text fields l ≡ signed_decimal v.y → IsWithin v most → most < 10 ^ 18
+    → vector_in fields k l most ≡ Ok v
+unfolding vector_in
+vector_is fields k l most v e f h small = rw (coordinate_is fields k most v.x e h.0 small, coordinate_is fields l most v.y f h.1 small) refl
+
+-- ---- a row
+
+pub steps_is : (n : ℕ) → n ≤ 100000 → steps_of (steps_row n) ≡ Ok n
+unfolding steps_of field_at
+steps_is n h = count_is (steps_row n) 1 0 100000 n refl (omega arith) h (omega arith)
+
+pub segment_is : (s : Segment) → IsSegment s → segment_of (segment_row s) ≡ Ok s
+unfolding segment_of field_at
+segment_is s h =
+    rw (vector_is (segment_row s) 1 2 4194304 s.a refl refl h.a (omega arith), vector_is (segment_row s) 3 4 4194304 s.b refl refl h.b (omega arith)) refl
+
+pub agent_is : (a : Agent) → IsAgent a → agent_of (agent_row a) ≡ Ok a
+unfolding agent_of motion_in agent_with field_at
+agent_is a h =
+    let row = agent_row a in
+    rw (
+      vector_is row 1 2 4194304 a.pos refl refl h.pos (omega arith),
+      vector_is row 3 4 16384 a.vel refl refl h.vel (omega arith),
+      vector_is row 5 6 16384 a.pref refl refl h.pref (omega arith),
+      count_is row 7 1 32768 a.radius refl h.build.some_radius h.build.radius (omega arith),
+      count_is row 8 0 16384 a.speed refl (omega arith) h.build.speed (omega arith),
+      count_is row 9 0 65536 a.range refl (omega arith) h.build.range (omega arith),
+      count_is row 10 0 64 a.most refl (omega arith) h.build.most (omega arith),
+      count_is row 11 1 4096 a.horizon refl h.build.some_horizon h.build.horizon (omega arith),
+      count_is row 12 1 4096 a.wall_horizon refl h.build.some_wall_horizon h.build.wall_horizon (omega arith),
+    ) refl

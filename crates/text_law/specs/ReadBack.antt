@@ -1,0 +1,10 @@
+-- What a text is for: that of a scenario of the kinds built reads back as that scenario.
+use Rattle.std.specs.Prelude.{◌≡◌, []}
+use Rattle.crowd_data.specs.Scenario.{IsValid, Parts}
+use Rattle.frame_text.specs.Transcript.{scenario_text}
+use Rattle.scenario_read.specs.Reading.{IsAccepted}
+use Rattle.scenario_read.specs.Records.{records_of}
+
+-- the records of the scenario's text are accepted as that scenario
+abbrev pub ReadsBack : Parts → Type 0
+ReadsBack scenario = IsValid scenario → scenario.posts ≡ [] → scenario.goals ≡ [] → IsAccepted (records_of (scenario_text scenario)) scenario
