@@ -1,5 +1,5 @@
 // A list whose room is taken beforehand, so that a push into it cannot be refused.
-ghost use Rattle.std.specs.Prelude.{◌≡◌, ◌<◌, ◌≤◌, ◌+◌, [], ◌∷◌, ◌++◌, length, slice_set, IfOk, OnOk, OnErr};
+ghost use Rattle.std.specs.Prelude.{◌≡◌, ◌<◌, ◌≤◌, ◌+◌, [], ◌∷◌, ◌++◌, length, slice_set, IfOk, IsOk, OnOk, OnErr};
 
 use std::alloc::Global;
 use std::marker::Model;
@@ -25,6 +25,7 @@ impl<T> List<T> {
     pub fn with_room(alloc: Global, room: usize) -> Result<List<T>, NoMemory>
         ensures empty { IfOk result (λ l. l.items ≡ []) }
         ensures room { IfOk result (λ l. room ≤ l.spare) }
+        ensures succeeds { room ≡ 0 → IsOk result }
     {
         match Vec::with_capacity(alloc, room) {
             Ok(held) => Ok(List { held }),
@@ -35,6 +36,7 @@ impl<T> List<T> {
     pub fn reserve(&mut self, room: usize) -> Result<(), NoMemory>
         ensures items { self.new.items ≡ self.old.items }
         ensures room { OnOk result (room ≤ self.new.spare) }
+        ensures succeeds { room ≤ self.old.spare → IsOk result }
         ensures refused { OnErr result (self.new.spare ≡ self.old.spare) }
     {
         match self.held.reserve(room) {

@@ -37,7 +37,7 @@ module _ (rows : List Record) (count : ℕ) (count_is : count ≡ length rows) (
       inr (record { scenario = h.scenario; who = h.who; which = h.which; read = sym same ∙ h.read; on = h.on; index_is = h.index_is ∙ count_is; cause_is = h.cause_is })
 
   pub told_at_end : (fault : ScenarioFault) → Ends last count fault → Tells rows fault
-  told_at_end NoMemory h = tt
+  told_at_end NoMemory h = absurd h
   told_at_end NotBuilt h = absurd h
   told_at_end (At index cause) h = (built, by_cause index cause h)
 

@@ -1,9 +1,6 @@
 pub mod Records
 pub mod Numbers
 pub mod Fields
-pub mod Plain
-pub mod Progress
-pub mod Held
 pub mod Reading
 pub mod Taking
 pub mod Told

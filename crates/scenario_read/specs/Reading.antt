@@ -16,7 +16,6 @@ use Rattle.scenario_read.specs.declared.motion.Motion.{Motion}
 use Rattle.scenario_read.specs.Numbers.{number_of}
 use Rattle.scenario_read.specs.Records.{Record}
 use Rattle.scenario_read.specs.Fields.{field_text}
-use Rattle.scenario_read.specs.Plain.{is_header}
 
 -- what was read so far
 pub record Read : Type 0 where
@@ -56,6 +55,10 @@ vector_in fields k l most =
 
 abbrev pub is_kind : Record → List ℕ → Bool
 is_kind fields kind = bytes_eq (field_text fields 0) kind
+
+-- crowd,1
+abbrev pub is_header : Record → Bool
+is_header fields = (length fields == 2) && is_kind fields (codes "crowd") && bytes_eq (field_text fields 1) (codes "1")
 
 -- where an agent is, how it moves and how it wants to move
 unfoldable pub motion_in : Record → Result Motion Cause

@@ -38,6 +38,6 @@ pub record EndsOnSegment (outcome : Result Parts (ℕ × Cause)) (count index : 
 
 -- what a fault at the end of the records says
 abbrev pub Ends : Result Parts (ℕ × Cause) → ℕ → ScenarioFault → Type 0
-Ends outcome count NoMemory = Unit {0}
+Ends outcome count NoMemory = ⊥
 Ends outcome count NotBuilt = ⊥
 Ends outcome count (At index cause) = (outcome ≡ Err (index, cause)) ⊎ EndsOnSegment outcome count index cause

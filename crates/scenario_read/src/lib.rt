@@ -4,8 +4,6 @@
 mod cause;
 mod fields;
 mod motion;
-mod plain;
-mod progress;
 mod read;
 mod reading;
 mod refusal;
@@ -13,7 +11,6 @@ mod scenario;
 mod standing;
 
 pub use cause::{Cause, ScenarioFault};
-pub use plain::{PlainFault, read_plain};
 pub use read::read_scenario;
 
 #[cfg(test)]

@@ -5,14 +5,13 @@ ghost use Rattle.csv.specs.Reading.{error_kind, stops_reader};
 ghost use Rattle.crowd_data.specs.Limits.{IsAgent, IsPosition, IsSegment, IsVelocity, IsWithin};
 ghost use Rattle.scenario_read.specs.Records.{records_of};
 ghost use Rattle.scenario_read.specs.Fields.{field_text};
-ghost use Rattle.scenario_read.specs.Reading.{agent_of, agent_with, and_then, count_in, is_kind, motion_in, number_in, segment_of, steps_of, take, take_kind, vector_in, with_agent, with_segment, with_steps};
+ghost use Rattle.scenario_read.specs.Reading.{agent_of, agent_with, and_then, count_in, is_header, is_kind, motion_in, number_in, segment_of, steps_of, take, take_kind, vector_in, with_agent, with_segment, with_steps};
 ghost use Rattle.scenario_read.specs.Taking.{TakesBy, read_of};
 ghost use Rattle.scenario_read.specs.declared.scenario.TakeFault.TheVariants.{NoMemory as TakeMemory, Refused};
 
 use crate::cause::Cause;
 use crate::fields::{field, number};
 use crate::motion::Motion;
-use crate::plain::is_header;
 use crate::reading::Reading;
 use crowd_data::{Agent, Segment};
 use csv::ByteRecord;
@@ -168,6 +167,13 @@ pub(crate) fn is_kind(row: &ByteRecord, kind: &[u8]) -> bool
     field(row, 0) == kind
 }
 
+// Whether a record is the header.
+fn is_header(row: &ByteRecord) -> bool
+    ensures { result ≡ is_header (fields_of row.now) }
+{
+    row.len() == 2 && is_kind(row, b"crowd") && field(row, 1) == b"1".as_slice()
+}
+
 // Takes the record of an agent.
 fn take_agent(reading: &mut Reading, row: &ByteRecord) -> Result<(), TakeFault>
     ensures { TakesBy (read_of reading.old) (read_of reading.new) result (and_then (agent_of (fields_of row.now)) (with_agent (read_of reading.old))) }
@@ -195,12 +201,13 @@ fn take_segment(reading: &mut Reading, row: &ByteRecord) -> Result<(), TakeFault
 }
 
 // Takes the record of the steps.
-fn take_steps(reading: &mut Reading, row: &ByteRecord) -> Result<(), TakeFault>
-    ensures { TakesBy (read_of reading.old) (read_of reading.new) result (and_then (steps_of (fields_of row.now)) (with_steps (read_of reading.old) reading.old.steps)) }
+fn take_steps(reading: &mut Reading, row: &ByteRecord) -> Result<(), Cause>
+    ensures taken { IfOk result (λ _. and_then (steps_of (fields_of row.now)) (with_steps (read_of reading.old) reading.old.steps) ≡ Ok (read_of reading.new)) }
+    ensures refused { IfErr result (λ cause. and_then (steps_of (fields_of row.now)) (with_steps (read_of reading.old) reading.old.steps) ≡ Err cause) }
 {
     let steps = steps_of(row)?;
     if reading.steps.is_some() {
-        return Err(TakeFault::Refused(Cause::StepsTwice));
+        return Err(Cause::StepsTwice);
     }
     reading.steps = Some(steps);
     Ok(())
@@ -216,7 +223,8 @@ fn take_kind(reading: &mut Reading, row: &ByteRecord) -> Result<(), TakeFault>
     } else if is_kind(row, b"segment") {
         take_segment(reading, row)
     } else if is_kind(row, b"steps") {
-        take_steps(reading, row)
+        take_steps(reading, row)?;
+        Ok(())
     } else {
         Err(TakeFault::Refused(Cause::UnknownKind))
     }

@@ -1,14 +1,14 @@
-// Inputs of the plain form and of others.
+// Scenarios, and inputs that stand for none.
 ghost use Rattle.std.specs.Prelude.{◌<◌, ◌^◌, length};
 
-use crate::{Cause, PlainFault, ScenarioFault, read_plain, read_scenario};
+use crate::{Cause, ScenarioFault, read_scenario};
 use fixed_vec::V2;
 use std::alloc::Global;
 use std::test::Fail;
 
 #[test]
 fn reads_an_agent(rt: HostRuntime) -> Result<(), Fail> {
-    let scenario = read_plain(
+    let scenario = read_scenario(
         rt.alloc(),
         b"crowd,1\nsteps,7\nagent,-4194304,4194304,1,-2,3,-0,500,400,15000,0,10,4\n",
     )?;
@@ -26,25 +26,6 @@ fn reads_an_agent(rt: HostRuntime) -> Result<(), Fail> {
         assert_eq!(rt; agent.pref, V2 { x: 3, y: 0 });
         assert_eq!(rt; agent.radius, 500);
         assert_eq!(rt; agent.wall_horizon, 4);
-    }
-    Ok(())
-}
-
-#[test]
-fn refuses_other_forms(rt: HostRuntime) -> Result<(), Fail> {
-    let inputs: [&[u8]; 6] = [
-        b"crowd,1",
-        b"crowd,1\nsteps,+1",
-        b"crowd,1\nsteps,1111111111111111111",
-        b"crowd,1\nsteps,1,1",
-        b"crowd,1\nsteps,1\nagent,4194305,0,0,0,0,0,500,400,15000,0,10,4",
-        b"steps,1\ncrowd,1",
-    ];
-    for input in inputs.iter() {
-        assert_eq!(rt;
-            read_plain(rt.alloc(), input).err(),
-            Some(PlainFault::NotPlain)
-        );
     }
     Ok(())
 }
