@@ -1,0 +1,6 @@
+pub mod Placed
+pub mod Seen
+pub mod Gather
+pub mod Boxes
+pub mod Missed
+pub mod Stands
