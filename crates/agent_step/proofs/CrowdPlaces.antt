@@ -13,9 +13,9 @@ use Rattle.crowd_data.specs.Neighbours.{nowhere}
 use Rattle.crowd_data.specs.RingPlanes.{ring_planes}
 use Rattle.crowd_data.specs.Run.{body_at, crowd_of, standing}
 use Rattle.body_law.proofs.Crowds.{agent_at-crowd_of}
-use Rattle.agent_step.specs.Placed.{IsPlaced}
+use Rattle.agent_kdtree.specs.Placed.{IsPlaced}
 
-length-crowd_of : (agents : List Agent) (bodies : List Body) → length bodies ≡ length agents → length (crowd_of agents bodies) ≡ length agents
+pub length-crowd_of : (agents : List Agent) (bodies : List Body) → length bodies ≡ length agents → length (crowd_of agents bodies) ≡ length agents
 length-crowd_of [] bodies e = refl
 length-crowd_of (agent ∷ agents) [] e = absurd (omega arith)
 length-crowd_of (agent ∷ agents) (body ∷ bodies) e = let h = length-crowd_of agents bodies (omega arith) in omega (arith, h)

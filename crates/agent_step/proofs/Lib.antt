@@ -1,5 +1,7 @@
 mod PolygonPoints
-pub mod FreeMoves
-mod CrowdPlaces
-mod NearPlaces
+pub mod CrowdPlaces
+mod Sight
+mod SoftPlanes
+mod Reliefs
+mod AmongMoves
 mod FirstFrames

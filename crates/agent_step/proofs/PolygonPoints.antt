@@ -1,14 +1,13 @@
 -- What is known of a point of the speed polygon.
-use Rattle.std.proofs.Common.{◌≡◌, ◌∙◌, ⊎_elim, ◌≤◌, ◌+◌, ◌*◌, ◌++◌, append-nil, List, ℕ, subst, sym, arith, length, Some, ℤ, pos, ◌*ℤ◌, ◌≤ℤ◌, unsigned_abs, mul-le-mul}
+use Rattle.std.proofs.Common.{◌≡◌, ⊎_elim, ◌≤◌, ◌+◌, ◌*◌, ◌++◌, List, ℕ, subst, sym, arith, take, Some, ℤ, pos, ◌*ℤ◌, ◌≤ℤ◌, unsigned_abs, mul-le-mul}
 use Rattle.std.specs.List.{All}
 use Rattle.std.specs.Prelude.{slice_get}
 use Rattle.std.proofs.lemmas.Bool.{cases_lt}
 use Rattle.std.proofs.lemmas.Int.{ints}
-use Rattle.std.proofs.lemmas.List.{drop_all, take_all}
 use Rattle.fixed_vec.specs.declared.vector.V2.{V2}
 use Rattle.fixed_vec.specs.Vector.{square}
 use Rattle.fixed_vec.specs.HalfPlane.{Plane}
-use Rattle.fixed_vec.specs.Meeting.{Nearest, relieved_after}
+use Rattle.fixed_vec.specs.Meeting.{Meeting, relieved_after}
 use Rattle.fixed_vec.specs.Point.{IsIn, Rational}
 use Rattle.crowd_data.specs.Limits.{IsVelocity}
 use Rattle.crowd_data.specs.RingPlanes.{ring_planes, ring_planes_of, ring_points}
@@ -16,18 +15,17 @@ use Rattle.hard_plane.proofs.RingPoints.{ring_planes_of-plain}
 use Rattle.hard_plane.proofs.Sizes.{square_abs}
 use Rattle.body_law.proofs.Lists.{front_of}
 
--- where all half-planes are hard, none is relieved
-relieved_after-all : (planes : List Plane) → relieved_after (length planes) 0 planes ≡ planes
-relieved_after-all planes =
-    rw (take_all (length planes) planes (omega arith), drop_all (length planes) planes (omega arith)) (append-nil planes)
+-- what is in all half-planes, some of them relieved, is in the hard ones
+pub meets_hard : (planes : List Plane) (hard relief : ℕ) (p : Rational) → Meeting (relieved_after hard relief planes) p → Meeting (take hard planes) p
+meets_hard planes hard relief p h = record { point = h.point; inside = front_of (λ plane. IsIn plane p) (take hard planes) _ h.inside }
 
--- the nearest point among the polygon and walls is in each half-plane of the ring
-pub nearest_in_ring : (radius : ℤ) (points : List V2) (speed : ℕ) (planes walls : List Plane) (pref : V2) (p : Rational) → radius ≡ pos 65 → points ≡ ring_points → planes ≡ ring_planes speed ++ walls
-    → Nearest (relieved_after (length planes) 0 planes) pref p → All (λ plane. IsIn plane p) (ring_planes_of radius points speed)
-nearest_in_ring radius points speed planes walls pref p e f g h =
-    let inside = (subst (λ (list : List Plane). Nearest list pref p) (relieved_after-all planes ∙ g) h).meets.inside in
+-- and, where these begin with the polygon, in each half-plane of the ring
+pub meets_ring : (radius : ℤ) (points : List V2) (speed : ℕ) (planes walls : List Plane) (hard relief : ℕ) (p : Rational) → radius ≡ pos 65 → points ≡ ring_points
+    → take hard planes ≡ ring_planes speed ++ walls → Meeting (relieved_after hard relief planes) p → All (λ plane. IsIn plane p) (ring_planes_of radius points speed)
+meets_ring radius points speed planes walls hard relief p e f g h =
+    let inside = subst (λ (list : List Plane). Meeting list p) g (meets_hard planes hard relief p h) in
     subst (λ (list : List Plane). All (λ plane. IsIn plane p) list) (sym (ring_planes_of-plain radius points speed e f))
-    (front_of (λ plane. IsIn plane p) (ring_planes speed) walls inside)
+    (front_of (λ plane. IsIn plane p) (ring_planes speed) walls inside.inside)
 
 -- the k-th half-plane of the plain ring is that of the speed polygon
 pub polygon_item : (radius : ℤ) (points : List V2) (speed k : ℕ) (plane : Plane) → radius ≡ pos 65 → points ≡ ring_points

@@ -1,2 +1,2 @@
-pub mod Free
-pub mod Placed
+pub mod Among
+pub mod Sight

@@ -1,24 +1,32 @@
 // What an agent does in a step.
-ghost use Rattle.std.specs.Prelude.{◌≡◌, ◌+◌, ◌<◌, ◌≤◌, ◌^◌, List, [], ◌++◌, All, length, map};
+ghost use Rattle.std.specs.Prelude.{◌≡◌, ◌≢◌, ◌⊎◌, ◌+◌, ◌<◌, ◌≤◌, ◌^◌, List, ◌++◌, All, length, map, take};
 ghost use Rattle.fixed_vec.specs.HalfPlane.{Plane};
+ghost use Rattle.fixed_vec.specs.Meeting.{relieved_after};
 ghost use Rattle.fixed_vec.specs.Vector.{IsBelow};
-ghost use Rattle.crowd_data.specs.Advice.{IsAdvice, agent_at, neighbours_of, place_of};
+ghost use Rattle.crowd_data.specs.Advice.{IsAdvice, Moves, StandsStill, agent_at, neighbours_of, place_of};
 ghost use Rattle.crowd_data.specs.Limits.{IsBuild, IsVelocity};
 ghost use Rattle.crowd_data.specs.RingPlanes.{ring_planes};
 ghost use Rattle.crowd_data.specs.Run.{body_at, crowd_of, standing};
 ghost use Rattle.crowd_data.specs.Walls.{IsClear};
 ghost use Rattle.crowd_data.specs.declared.agent.Agent.{Agent};
+ghost use Rattle.crowd_data.specs.declared.frame.Body.{Body};
 ghost use Rattle.crowd_data.specs.declared.pair.Place.{Place};
-ghost use Rattle.agent_step.specs.Free.{AdvisedFreely};
+ghost use Rattle.crowd_data.specs.declared.frame.Mark.TheVariants.{Feasible, Fallback};
+ghost use Rattle.planar_line.specs.Relief.{KeepBounds};
+ghost use Rattle.planar_program.specs.Met.{IsMet};
+ghost use Rattle.agent_step.specs.Among.{AdvisedAmong};
+ghost use Rattle.agent_kdtree.specs.Stands.{StandsFor};
+ghost use Rattle.agent_kdtree.specs.declared.near.Near.{Near};
 
 use crate::hard::fill;
-use crate::near::misses_near;
 use crate::polygons::Polygons;
 use crate::scratch::Scratch;
+use crate::soft::push_shares;
+use agent_kdtree::{Near, Tree};
 use crowd_data::{Agent, Body, Mark, Place, Scenario};
 use fixed_vec::{HalfPlane, V2};
 use hard_plane::Ring;
-use planar_program::nearest;
+use planar_program::{GREATEST_RELIEF, least_relief};
 
 /// What an agent does in a step.
 #[derive(Clone, Copy, Debug, PartialEq, Eq)]
@@ -27,7 +35,7 @@ pub struct Advice {
     pub vel: V2,
     /// How the velocity came about.
     pub mark: Mark,
-    /// By how many lengths of their normals the neighbours' half-planes are relieved.
+    /// By how many lengths of their normals the neighbours' half-planes are relieved, below 2^18.
     pub relief: u32,
 }
 
@@ -45,36 +53,85 @@ fn standing(agent: &Agent, body: &Body) -> Agent
     }
 }
 
-// What an agent does among its hard half-planes alone.
-fn advise_freely(planes: &[HalfPlane], agent: &Agent) -> Advice
+// The mark of an agent that moves.
+fn mark_of(relief: u32) -> Mark
+    ensures feasible { relief ≡ 0 → result ≡ Feasible }
+    ensures fallback { relief ≢ 0 → result ≡ Fallback }
+{
+    if relief == 0 {
+        Mark::Feasible
+    } else {
+        Mark::Fallback
+    }
+}
+
+// What an agent does among half-planes, the first `hard` of which it never gives up.
+fn advise_among(planes: &[HalfPlane], hard: usize, agent: &Agent) -> Advice
     requires build { IsBuild agent.now }
     requires pref { IsVelocity agent.now.pref }
-    requires polygon { (walls : List Plane) × (planes.now ≡ ring_planes agent.now.speed ++ walls) }
-    ensures free { AdvisedFreely planes.now agent.now.pref result.vel result.mark result.relief }
+    requires hard { hard ≤ length planes.now }
+    requires polygon { (walls : List Plane) × (take hard planes.now ≡ ring_planes agent.now.speed ++ walls) }
+    requires bounds { KeepBounds hard GREATEST_RELIEF planes.now }
+    requires enough { IsMet (take hard planes.now)
+        → IsMet (relieved_after hard GREATEST_RELIEF planes.now) }
+    ensures advised { AdvisedAmong hard planes.now agent.now.pref result.vel result.mark result.relief }
     ensures slow { IsVelocity result.vel }
 {
-    let Some(point) = nearest(planes, planes.len(), 0, agent.pref) else {
+    let Some(least) = least_relief(planes, hard, agent.pref) else {
         return Advice {
             vel: STILL,
             mark: Mark::Stopped,
             relief: 0,
         };
     };
-    Ring::<36>::plain().speed_law(agent.speed, &point);
+    Ring::<36>::plain().speed_law(agent.speed, &least.point);
     Advice {
-        vel: point.rounded(),
-        mark: Mark::Feasible,
-        relief: 0,
+        vel: least.point.rounded(),
+        mark: mark_of(least.relief),
+        relief: least.relief,
     }
 }
 
-/// The advice of the agent with this number, which sees no neighbour, in a frame with these bodies. The
-/// places are those of all agents in the frame, and the agent is clear of all segments.
+// What an agent does that sees these neighbours, but for the mark Crowded.
+fn advise_against(
+    scenario: &Scenario,
+    polygons: &Polygons,
+    bodies: &[Body],
+    who: usize,
+    near: &[Near],
+    scratch: &mut Scratch,
+) -> Advice
+    requires who { who < length scenario.now.agents }
+    requires bodies { length bodies.now ≡ length scenario.now.agents }
+    requires polygons { polygons.now ≡ map (λ (agent : Agent). ring_planes agent.speed) scenario.now.agents }
+    requires slow { All (λ (body : Body). IsVelocity body.vel) bodies.now }
+    requires pos { IsBelow (body_at bodies.now who).pos (2 ^ 31) }
+    requires pref { IsVelocity (body_at bodies.now who).pref }
+    requires clear { All (IsClear (body_at bodies.now who).pos (agent_at scenario.now.agents who).radius) scenario.now.segments }
+    requires near { map (λ (near : Near). near.agent) near.now ≡ neighbours_of (crowd_of scenario.now.agents bodies.now) who }
+    requires room { length scenario.now.segments + 36 + length near.now ≤ scratch.old }
+    ensures moves { StandsStill scenario.now.segments (crowd_of scenario.now.agents bodies.now) who result.vel result.mark result.relief
+        ⊎ Moves scenario.now.segments (crowd_of scenario.now.agents bodies.now) who result.vel result.mark result.relief }
+    ensures slow { IsVelocity result.vel }
+    ensures room { scratch.new ≡ scratch.old }
+{
+    let agents = scenario.agents();
+    let agent = standing(&agents[who], &bodies[who]);
+    let planes = &mut scratch.planes;
+    fill(planes, polygons.of(who), &agent, scenario.segments());
+    let hard = planes.items().len();
+    push_shares(planes, agents, bodies, who, near);
+    advise_among(planes.items(), hard, &agent)
+}
+
+/// The advice of the agent with this number in a frame with these bodies. The places are those of all
+/// agents in the frame, the tree stands for them, and the agent is clear of all segments.
 pub fn advise(
     scenario: &Scenario,
     polygons: &Polygons,
     bodies: &[Body],
     places: &[Place],
+    tree: &Tree,
     who: usize,
     scratch: &mut Scratch,
 ) -> Advice
@@ -83,28 +140,24 @@ pub fn advise(
     requires polygons { polygons.now ≡ map (λ (agent : Agent). ring_planes agent.speed) scenario.now.agents }
     requires places { places.now ≡ map place_of (crowd_of scenario.now.agents bodies.now) }
     requires near { All (λ (place : Place). IsBelow place.pos (2 ^ 31)) places.now }
+    requires slow { All (λ (body : Body). IsVelocity body.vel) bodies.now }
     requires pref { IsVelocity (body_at bodies.now who).pref }
     requires clear { All (IsClear (body_at bodies.now who).pos (agent_at scenario.now.agents who).radius) scenario.now.segments }
-    requires unseeing { neighbours_of (crowd_of scenario.now.agents bodies.now) who ≡ [] }
-    requires room { length scenario.now.segments + 36 ≤ scratch.old }
+    requires stands { StandsFor tree.now places.now }
+    requires room { length scenario.now.segments + 100 ≤ scratch.old }
     ensures advice { IsAdvice scenario.now.segments (crowd_of scenario.now.agents bodies.now) who result.vel result.mark result.relief }
     ensures slow { IsVelocity result.vel }
     ensures room { scratch.new ≡ scratch.old }
 {
-    let agent = standing(&scenario.agents()[who], &bodies[who]);
-    fill(
-        &mut scratch.planes,
-        polygons.of(who),
-        &agent,
-        scenario.segments(),
-    );
-    let free = advise_freely(scratch.planes.items(), &agent);
-    if misses_near(places, who) {
+    let agent = &scenario.agents()[who];
+    let near = tree.nearest(places, who as u32, agent.range, agent.most);
+    let roomy = advise_against(scenario, polygons, bodies, who, near.as_slice(), scratch);
+    if tree.misses_near(places, who as u32, near.as_slice()) {
         Advice {
             mark: Mark::Crowded,
-            ..free
+            ..roomy
         }
     } else {
-        free
+        roomy
     }
 }

@@ -21,14 +21,15 @@ impl Model for Scratch {
 }
 
 impl Scratch {
-    /// Room for an agent among so many segments, 0 to 2,000 of them. `NoMemory` is answered for want of
+    /// Room for an agent among so many segments, 0 to 2,000 of them. Each can make a half-plane, as each
+    /// of at most 64 neighbours does, and the speed polygon makes 36. `NoMemory` is answered for want of
     /// memory alone.
     pub fn open(alloc: Global, segments: usize) -> Result<Scratch, NoMemory>
         requires { segments ≤ 2000 }
-        ensures { IfOk result (λ s. segments + 36 ≤ s) }
+        ensures { IfOk result (λ s. segments + 100 ≤ s) }
     {
         Ok(Scratch {
-            planes: List::with_room(alloc, segments + 36)?,
+            planes: List::with_room(alloc, segments + 100)?,
         })
     }
 }

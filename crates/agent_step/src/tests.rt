@@ -1,10 +1,13 @@
-// Agents that see no neighbour, with expected advice by hand.
-ghost use Rattle.std.specs.Prelude.{◌≡◌, ◌<◌, ◌≤◌, [], All, IfOk, length, map};
-ghost use Rattle.crowd_data.specs.Advice.{neighbours_of, place_of};
+// Agents alone and among others, with expected advice by hand.
+ghost use Rattle.std.specs.Prelude.{◌≡◌, ◌<◌, ◌≤◌, ◌^◌, [], All, IfOk, length, map};
+ghost use Rattle.agent_kdtree.specs.Placed.{IsPlaced};
+ghost use Rattle.agent_kdtree.specs.Stands.{StandsFor};
+ghost use Rattle.crowd_data.specs.Advice.{place_of};
 ghost use Rattle.crowd_data.specs.Limits.{IsAgent, IsPosition, IsSegment, IsVelocity};
 ghost use Rattle.crowd_data.specs.Scenario.{IsValid};
 
 use crate::{Advice, Polygons, Scratch, advise};
+use agent_kdtree::Tree;
 use crowd_data::{Agent, Mark, Place, Scenario, Segment, clear, first_frame};
 use fixed_vec::{List, NoMemory, V2, dot};
 use std::alloc::Global;
@@ -41,22 +44,33 @@ fn places_of(alloc: Global, agents: &[Agent]) -> Result<List<Place>, NoMemory>
     Ok(places)
 }
 
-// The advice of the first agent in the first frame.
-fn first_advice(alloc: Global, scenario: &Scenario) -> Result<Advice, Fail>
-    requires some { 0 < length scenario.now.agents }
-    requires unseeing { neighbours_of scenario.now.agents 0 ≡ [] }
+fn tree_over(alloc: Global, places: &[Place]) -> Result<Tree, NoMemory>
+    requires few { length places.now < 2 ^ 32 }
+    requires placed { All IsPlaced places.now }
+    ensures { IfOk result (λ tree. StandsFor tree places.now) }
+{
+    let mut tree = Tree::open(alloc, places)?;
+    tree.rebuild(places);
+    Ok(tree)
+}
+
+// The advice of the agent with this number in the first frame.
+fn first_advice(alloc: Global, scenario: &Scenario, who: usize) -> Result<Advice, Fail>
+    requires who { who < length scenario.now.agents }
     ensures slow { IfOk result (λ a. IsVelocity a.vel) }
 {
     let polygons = Polygons::open(alloc, scenario.agents())?;
     let mut scratch = Scratch::open(alloc, scenario.segments().len())?;
     let frame = first_frame(alloc, scenario)?;
     let places = places_of(alloc, scenario.agents())?;
+    let tree = tree_over(alloc, places.items())?;
     Ok(advise(
         scenario,
         &polygons,
         frame.bodies.items(),
         places.items(),
-        0,
+        &tree,
+        who,
         &mut scratch,
     ))
 }
@@ -88,7 +102,7 @@ fn alone(rt: &impl Abort, alloc: Global, agent: Agent, segments: &[Segment]) -> 
     }
     let mut agents = List::with_room(alloc, 1)?;
     agents.push(agent);
-    first_advice(alloc, &scenario_of(alloc, agents, walls)?)
+    first_advice(alloc, &scenario_of(alloc, agents, walls)?, 0)
 }
 
 // The advice of a walker that looks for no neighbours, with another walker at a place.
@@ -99,13 +113,94 @@ fn beside(alloc: Global, pos: V2) -> Result<Advice, Fail>
     agents.push(Agent { most: 0, ..WALKER });
     agents.push(Agent { pos, ..WALKER });
     let walls = List::with_room(alloc, 0)?;
-    first_advice(alloc, &scenario_of(alloc, agents, walls)?)
+    first_advice(alloc, &scenario_of(alloc, agents, walls)?, 0)
+}
+
+// The advice of one of these agents, which have no walls.
+fn among(alloc: Global, crowd: &[Agent], who: usize) -> Result<Advice, Fail>
+    requires crowd { All IsAgent crowd.now }
+    requires count { length crowd.now ≤ 10000 }
+    requires who { who < length crowd.now }
+    ensures slow { IfOk result (λ a. IsVelocity a.vel) }
+{
+    let mut agents = List::with_room(alloc, crowd.len())?;
+    for agent in crowd {
+        agents.push(*agent);
+    }
+    let walls = List::with_room(alloc, 0)?;
+    first_advice(alloc, &scenario_of(alloc, agents, walls)?, who)
+}
+
+// The advice of each of two agents.
+fn two(alloc: Global, a: Agent, b: Agent) -> Result<[Advice; 2], Fail>
+    requires a { IsAgent a }
+    requires b { IsAgent b }
+{
+    let crowd = [a, b];
+    Ok([among(alloc, &crowd, 0)?, among(alloc, &crowd, 1)?])
+}
+
+// The advice of each of three agents.
+fn three(alloc: Global, a: Agent, b: Agent, c: Agent) -> Result<[Advice; 3], Fail>
+    requires a { IsAgent a }
+    requires b { IsAgent b }
+    requires c { IsAgent c }
+{
+    let crowd = [a, b, c];
+    let first = among(alloc, &crowd, 0)?;
+    let second = among(alloc, &crowd, 1)?;
+    Ok([first, second, among(alloc, &crowd, 2)?])
+}
+
+fn walker(pos: V2, vel: V2, pref: V2) -> Agent
+    requires pos { IsPosition pos }
+    requires vel { IsVelocity vel }
+    requires pref { IsVelocity pref }
+    ensures { IsAgent result }
+{
+    Agent {
+        pos,
+        vel,
+        pref,
+        ..WALKER
+    }
+}
+
+fn with_speed(agent: Agent, speed: u32) -> Agent
+    requires agent { IsAgent agent }
+    requires speed { speed ≤ 16384 }
+    ensures { IsAgent result }
+{
+    Agent { speed, ..agent }
+}
+
+fn heeding_one(agent: Agent) -> Agent
+    requires { IsAgent agent }
+    ensures { IsAgent result }
+{
+    Agent { most: 1, ..agent }
 }
 
 fn feasible(vel: V2) -> Advice {
     Advice {
         vel,
         mark: Mark::Feasible,
+        relief: 0,
+    }
+}
+
+fn fallback(vel: V2, relief: u32) -> Advice {
+    Advice {
+        vel,
+        mark: Mark::Fallback,
+        relief,
+    }
+}
+
+fn crowded(vel: V2) -> Advice {
+    Advice {
+        vel,
+        mark: Mark::Crowded,
         relief: 0,
     }
 }
@@ -197,14 +292,12 @@ fn stands_still_without_room(rt: HostRuntime) -> Result<(), Fail> {
 // They are near where they are at most 500 + 500 + 400 + 400 = 1800 apart.
 #[test]
 fn crowded_by_near_agents(rt: HostRuntime) -> Result<(), Fail> {
-    let crowded = Advice {
-        vel: EAST,
-        mark: Mark::Crowded,
-        relief: 0,
-    };
-    assert_eq!(rt; beside(rt.alloc(), V2 { x: 1500, y: 0 })?, crowded);
-    assert_eq!(rt; beside(rt.alloc(), V2 { x: 0, y: -1800 })?, crowded);
-    assert_eq!(rt; beside(rt.alloc(), V2 { x: -1080, y: 1440 })?, crowded);
+    assert_eq!(rt; beside(rt.alloc(), V2 { x: 1500, y: 0 })?, crowded(EAST));
+    assert_eq!(rt; beside(rt.alloc(), V2 { x: 0, y: -1800 })?, crowded(EAST));
+    assert_eq!(rt;
+        beside(rt.alloc(), V2 { x: -1080, y: 1440 })?,
+        crowded(EAST)
+    );
     Ok(())
 }
 
@@ -241,5 +334,96 @@ fn keeps_within_every_speed(rt: HostRuntime) -> Result<(), Fail> {
             assert!(rt; dot(advice.vel, advice.vel) <= square, "at {speed}");
         }
     }
+    Ok(())
+}
+
+#[test]
+fn pass_far_off(rt: HostRuntime) -> Result<(), Fail> {
+    let east = V2 { x: 200, y: 0 };
+    let west = V2 { x: -200, y: 0 };
+    let first = walker(ORIGIN, east, east);
+    let second = walker(V2 { x: 10000, y: 0 }, west, west);
+    let advice = two(rt.alloc(), first, second)?;
+    assert_eq!(rt; advice, [feasible(east), feasible(west)]);
+    Ok(())
+}
+
+#[test]
+fn pass_on_the_right(rt: HostRuntime) -> Result<(), Fail> {
+    let east = V2 { x: 200, y: 0 };
+    let west = V2 { x: -200, y: 0 };
+    let first = walker(ORIGIN, east, east);
+    let second = walker(V2 { x: 3000, y: 0 }, west, west);
+    let advice = two(rt.alloc(), first, second)?;
+    assert_eq!(rt; advice[0], feasible(V2 { x: 178, y: -63 }));
+    assert_eq!(rt; advice[1], feasible(V2 { x: -178, y: 63 }));
+    Ok(())
+}
+
+#[test]
+fn keep_apart_where_they_touch(rt: HostRuntime) -> Result<(), Fail> {
+    let first = walker(ORIGIN, ORIGIN, V2 { x: 100, y: 0 });
+    let second = walker(V2 { x: 1000, y: 0 }, ORIGIN, V2 { x: -100, y: 0 });
+    let advice = two(rt.alloc(), first, second)?;
+    assert_eq!(rt; advice, [feasible(ORIGIN), feasible(V2 { x: 1, y: 0 })]);
+    Ok(())
+}
+
+// The one in the middle touches both others, and has no way to be apart from each.
+#[test]
+fn relieves_as_little_as_it_can(rt: HostRuntime) -> Result<(), Fail> {
+    let first = walker(ORIGIN, ORIGIN, ORIGIN);
+    let second = walker(V2 { x: 1000, y: 0 }, ORIGIN, V2 { x: 100, y: 0 });
+    let third = walker(V2 { x: 2000, y: 0 }, ORIGIN, ORIGIN);
+    let one = V2 { x: 1, y: 0 };
+    let advice = three(rt.alloc(), first, second, third)?;
+    assert_eq!(rt; advice, [feasible(ORIGIN), fallback(one, 1), feasible(one)]);
+    Ok(())
+}
+
+#[test]
+fn leave_one_place(rt: HostRuntime) -> Result<(), Fail> {
+    let agent = with_speed(walker(ORIGIN, ORIGIN, ORIGIN), 600);
+    let advice = two(rt.alloc(), agent, agent)?;
+    assert_eq!(rt; advice[0], feasible(V2 { x: 501, y: 0 }));
+    assert_eq!(rt; advice[1], feasible(V2 { x: -501, y: 0 }));
+    Ok(())
+}
+
+#[test]
+fn too_slow_to_leave_one_place(rt: HostRuntime) -> Result<(), Fail> {
+    let agent = walker(ORIGIN, ORIGIN, ORIGIN);
+    let advice = two(rt.alloc(), agent, agent)?;
+    assert_eq!(rt; advice[0], fallback(V2 { x: 399, y: 0 }, 102));
+    assert_eq!(rt; advice[1], fallback(V2 { x: -399, y: 0 }, 102));
+    Ok(())
+}
+
+#[test]
+fn crowded_by_near_agents_that_it_misses(rt: HostRuntime) -> Result<(), Fail> {
+    let first = heeding_one(walker(ORIGIN, ORIGIN, ORIGIN));
+    let second = walker(V2 { x: 1500, y: 0 }, ORIGIN, ORIGIN);
+    let near = walker(V2 { x: 0, y: 1700 }, ORIGIN, ORIGIN);
+    let advice = three(rt.alloc(), first, second, near)?;
+    assert_eq!(rt;
+        advice,
+        [crowded(ORIGIN), feasible(ORIGIN), feasible(ORIGIN)]
+    );
+    let far = walker(V2 { x: 0, y: 1801 }, ORIGIN, ORIGIN);
+    let advice = three(rt.alloc(), first, second, far)?;
+    assert_eq!(rt; advice[0], feasible(ORIGIN));
+    Ok(())
+}
+
+// Of two that are as near, it heeds the one with the lower number.
+#[test]
+fn heeds_the_lower_number(rt: HostRuntime) -> Result<(), Fail> {
+    let first = heeding_one(walker(ORIGIN, ORIGIN, V2 { x: 100, y: 0 }));
+    let second = walker(V2 { x: 1200, y: 0 }, ORIGIN, ORIGIN);
+    let third = walker(V2 { x: -1200, y: 0 }, ORIGIN, ORIGIN);
+    let advice = three(rt.alloc(), first, second, third)?;
+    assert_eq!(rt; advice[0], crowded(V2 { x: 10, y: 0 }));
+    assert_eq!(rt; advice[1], feasible(ORIGIN));
+    assert_eq!(rt; advice[2], feasible(ORIGIN));
     Ok(())
 }

@@ -1,4 +1,8 @@
-pub mod Unseen
 mod MovedBodies
+mod FirstNumber
+mod SomeRelief
+mod SomeMark
+mod SoftNormals
+mod SomeAdvice
 pub mod NextFrame
 mod Present

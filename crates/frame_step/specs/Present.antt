@@ -1,5 +1,5 @@
 -- What holds of the present frame of a run.
-use Rattle.std.specs.Prelude.{◌≡◌, ℕ, ◌+◌, ◌*◌, ◌≤◌, false, List, length, map}
+use Rattle.std.specs.Prelude.{◌≡◌, ℕ, ◌+◌, ◌*◌, ◌≤◌, List, length, map}
 use Rattle.std.specs.List.{All}
 use Rattle.fixed_vec.specs.declared.vector.V2.{V2}
 use Rattle.fixed_vec.specs.HalfPlane.{Plane}
@@ -13,8 +13,9 @@ use Rattle.crowd_data.specs.Limits.{IsVelocity, IsWithin}
 use Rattle.crowd_data.specs.RingPlanes.{ring_planes}
 use Rattle.crowd_data.specs.Run.{Snapshot}
 use Rattle.crowd_data.specs.SafeSteps.{ClearFrame}
-use Rattle.crowd_data.specs.Scenario.{Parts}
-use Rattle.frame_step.specs.Sight.{sees_neighbours}
+use Rattle.crowd_data.specs.Scenario.{IsValid, Parts}
+use Rattle.agent_kdtree.specs.declared.tree.Tree.{Tree}
+use Rattle.agent_kdtree.specs.Stands.{HasRoomFor}
 
 -- a body that came where it is in so many steps
 pub record HasCome (number : ℕ) (body : Body) : Type 0 where
@@ -43,10 +44,11 @@ abbrev pub HasRoom : {A : Type 0} → ℕ → Held A → Type 0
 HasRoom count list = count ≤ length list.items + list.spare
 
 -- all that the steps of a run need was taken beforehand
-pub record IsReady (scenario : Parts) (frame : Snapshot) (made : List (List Plane)) (next : Held Body) (stand : Held Place) (scratch : ℕ) : Type 0 where
+pub record IsReady (scenario : Parts) (frame : Snapshot) (made : List (List Plane)) (next : Held Body) (stand : Held Place) (index : Tree) (scratch : ℕ) : Type 0 where
+  pub valid : IsValid scenario
   pub present : IsPresent scenario frame
-  pub unseeing : sees_neighbours scenario.agents ≡ false
   pub polygons : made ≡ map (λ (agent : Agent). ring_planes agent.speed) scenario.agents
   pub bodies : HasRoom (length scenario.agents) next
   pub places : HasRoom (length scenario.agents) stand
-  pub planes : length scenario.segments + 36 ≤ scratch
+  pub tree : HasRoomFor index (length scenario.agents)
+  pub planes : length scenario.segments + 100 ≤ scratch

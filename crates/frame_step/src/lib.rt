@@ -3,10 +3,8 @@
 
 mod moves;
 mod places;
-mod sight;
 mod stepper;
 
-pub use sight::sees_neighbours;
 pub use stepper::Stepper;
 
 #[cfg(test)]

@@ -1,13 +1,14 @@
 // How all bodies move in a step.
-ghost use Rattle.std.specs.Prelude.{◌≡◌, ◌<◌, ◌≤◌, ◌+◌, [], false, map, length};
+ghost use Rattle.std.specs.Prelude.{◌≡◌, ◌<◌, ◌≤◌, ◌+◌, [], map, length};
 ghost use Rattle.crowd_data.specs.declared.agent.Agent.{Agent};
 ghost use Rattle.crowd_data.specs.Advice.{place_of};
 ghost use Rattle.crowd_data.specs.Limits.{IsVelocity};
 ghost use Rattle.crowd_data.specs.RingPlanes.{ring_planes};
 ghost use Rattle.crowd_data.specs.Run.{IsNext, crowd_of, snapshot_of};
 ghost use Rattle.frame_step.specs.Present.{HasCome, HasRoom, IsPresent, moved_body};
-ghost use Rattle.frame_step.specs.Sight.{sees_neighbours};
+ghost use Rattle.agent_kdtree.specs.Stands.{StandsFor};
 
+use agent_kdtree::Tree;
 use agent_step::{Advice, Polygons, Scratch, advise};
 use crowd_data::{Body, Frame, Place, Scenario};
 use fixed_vec::{List, plus};
@@ -35,15 +36,16 @@ pub(crate) fn advance(
     polygons: &Polygons,
     frame: &Frame,
     places: &[Place],
+    tree: &Tree,
     scratch: &mut Scratch,
 )
     requires below { frame.now.number < scenario.now.steps }
     requires present { IsPresent scenario.now (snapshot_of frame.now) }
-    requires unseeing { sees_neighbours scenario.now.agents ≡ false }
     requires polygons { polygons.now ≡ map (λ (agent : Agent). ring_planes agent.speed) scenario.now.agents }
     requires places { places.now ≡ map place_of (crowd_of scenario.now.agents frame.now.bodies.items) }
+    requires stands { StandsFor tree.now places.now }
     requires bodies { HasRoom (length scenario.now.agents) next.old }
-    requires planes { length scenario.now.segments + 36 ≤ scratch.old }
+    requires planes { length scenario.now.segments + 100 ≤ scratch.old }
     ensures next { IsNext scenario.now (snapshot_of frame.now) [] (record { number = frame.now.number + 1; bodies = next.new.items }) }
     ensures present { IsPresent scenario.now (record { number = frame.now.number + 1; bodies = next.new.items }) }
     ensures planes { scratch.new ≡ scratch.old }
@@ -51,7 +53,7 @@ pub(crate) fn advance(
     let bodies = frame.bodies.items();
     next.clear();
     for who in 0..scenario.agents().len() {
-        let advice = advise(scenario, polygons, bodies, places, who, scratch);
+        let advice = advise(scenario, polygons, bodies, places, tree, who, scratch);
         next.push(moved(&bodies[who], advice, frame.number));
     }
 }

@@ -1,11 +1,12 @@
 // The stepper.
-ghost use Rattle.std.specs.Prelude.{◌≡◌, ◌<◌, [], false, IfOk};
+ghost use Rattle.std.specs.Prelude.{◌≡◌, ◌<◌, [], IfOk};
 ghost use Rattle.crowd_data.specs.Run.{IsNext, snapshot_of, start_of};
+ghost use Rattle.crowd_data.specs.Scenario.{IsValid};
 ghost use Rattle.frame_step.specs.Present.{Course, IsPresent, IsReady};
-ghost use Rattle.frame_step.specs.Sight.{sees_neighbours};
 
 use crate::moves::advance;
 use crate::places::place_all;
+use agent_kdtree::Tree;
 use agent_step::{Polygons, Scratch};
 use crowd_data::{Body, Frame, Place, Scenario, first_frame};
 use fixed_vec::{List, NoMemory};
@@ -21,6 +22,7 @@ pub struct Stepper {
     frame: Frame,
     next: List<Body>,
     places: List<Place>,
+    tree: Tree,
     scratch: Scratch,
 }
 
@@ -29,13 +31,12 @@ impl Model for Stepper {
 
     ghost view = { λ s. record { scenario = s.scenario; frame = snapshot_of s.frame } };
 
-    ghost invariant = { λ s. IsReady s.scenario (snapshot_of s.frame) s.polygons s.next s.places s.scratch };
+    ghost invariant = { λ s. IsReady s.scenario (snapshot_of s.frame) s.polygons s.next s.places s.tree s.scratch };
 }
 
 impl Stepper {
     /// The run of a scenario at its frame 0. `NoMemory` is answered for want of memory alone.
     pub fn open(alloc: Global, scenario: Scenario) -> Result<Stepper, NoMemory>
-        requires { sees_neighbours scenario.agents ≡ false }
         ensures scenario { IfOk result (λ s. s.scenario ≡ scenario) }
         ensures frame { IfOk result (λ s. s.frame ≡ start_of scenario) }
     {
@@ -43,14 +44,17 @@ impl Stepper {
         let polygons = Polygons::open(alloc, scenario.agents())?;
         let scratch = Scratch::open(alloc, scenario.segments().len())?;
         let next = List::with_room(alloc, agents)?;
-        let places = List::with_room(alloc, agents)?;
         let frame = first_frame(alloc, &scenario)?;
+        let mut places = List::with_room(alloc, agents)?;
+        place_all(&mut places, scenario.agents(), frame.bodies.items());
+        let tree = Tree::open(alloc, places.items())?;
         Ok(Stepper {
             scenario,
             polygons,
             frame,
             next,
             places,
+            tree,
             scratch,
         })
     }
@@ -68,7 +72,7 @@ impl Stepper {
     /// The scenario that is run.
     pub fn scenario(&self) -> &Scenario
         ensures value { result.now ≡ self.now.scenario }
-        ensures built { sees_neighbours self.now.scenario.agents ≡ false }
+        ensures valid { IsValid self.now.scenario }
     {
         &self.scenario
     }
@@ -85,12 +89,14 @@ impl Stepper {
             self.scenario.agents(),
             self.frame.bodies.items(),
         );
+        self.tree.rebuild(self.places.items());
         advance(
             &mut self.next,
             &self.scenario,
             &self.polygons,
             &self.frame,
             self.places.items(),
+            &self.tree,
             &mut self.scratch,
         );
         swap(&mut self.frame.bodies, &mut self.next);

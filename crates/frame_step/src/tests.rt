@@ -1,5 +1,5 @@
 // Runs of a few agents, step by step.
-use crate::{Stepper, sees_neighbours};
+use crate::Stepper;
 use crowd_data::{Agent, Mark, Scenario};
 use fixed_vec::{List, V2};
 use std::test::Fail;
@@ -52,13 +52,4 @@ fn each_step_is_made_from_one_frame(rt: HostRuntime) -> Result<(), Fail> {
     assert_eq!(rt; bodies[1].mark, Mark::Feasible);
     assert_eq!(rt; stepper.frame().number, stepper.scenario().steps());
     Ok(())
-}
-
-#[test]
-fn looks_for_neighbours(rt: HostRuntime) {
-    let looks_out = Agent { most: 1, ..WALKER };
-    assert_eq!(rt; sees_neighbours(&[]), false);
-    assert_eq!(rt; sees_neighbours(&[looks_out]), false);
-    assert_eq!(rt; sees_neighbours(&[WALKER, WALKER]), false);
-    assert_eq!(rt; sees_neighbours(&[WALKER, looks_out]), true);
 }

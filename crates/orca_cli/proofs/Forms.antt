@@ -1,6 +1,6 @@
 -- Of the three ways in which bytes can be answered, no two hold at once: refused, of a form that isn't built, or
 -- taken.
-use Rattle.std.proofs.Common.{◌≡◌, sym, subst, inl, inr, ℕ, ◌≤◌, List, length, true, false, Some, IfSome}
+use Rattle.std.proofs.Common.{◌≡◌, subst, inl, inr, ℕ, ◌≤◌, List, length, Some, IfSome}
 use Rattle.std.specs.List.{All, slice_get}
 use Rattle.std.specs.declared.option.Option.{Option}
 use Rattle.std.specs.Io.KnownBytes.{Consumes, IsAtEnd}
@@ -9,7 +9,6 @@ use Rattle.std.proofs.lemmas.Option.{get_or_from_slice_get, slice_get_within}
 use Rattle.crowd_data.specs.declared.agent.Agent.{Agent}
 use Rattle.crowd_data.specs.Scenario.{Parts}
 use Rattle.crowd_data.specs.Walls.{IsClear}
-use Rattle.frame_step.specs.Sight.{sees_neighbours}
 use Rattle.scenario_read.specs.declared.cause.Cause.{Cause}
 use Rattle.scenario_read.specs.declared.cause.ScenarioFault.TheVariants.{At}
 use Rattle.scenario_read.specs.Reading.{AllClear, IsAccepted, Tells}
@@ -29,21 +28,11 @@ accepted_or_refused rows scenario index cause ok (built, inr on) =
     o.touched (at_place (IsClear o.agent.pos o.agent.radius) _ _ o.segment (at_place (λ (agent : Agent). All (IsClear agent.pos agent.radius) on.scenario.segments) _ _ o.agent clear o.agent_is) o.segment_is)
 
 refused_or_unbuilt : (bytes : List ℕ) (index : ℕ) (cause : Cause) → IsRefusedBy bytes index cause → IsUnbuilt bytes → ⊥
-refused_or_unbuilt bytes index cause (built, h) (inl posted) = cc (built, posted)
-refused_or_unbuilt bytes index cause told (inr (scenario, ok, many)) = accepted_or_refused (records_of bytes) scenario index cause ok told
+refused_or_unbuilt bytes index cause (built, h) posted = cc (built, posted)
 
-built_or_unbuilt : (bytes : List ℕ) (scenario : Parts) → StandsFor bytes scenario → sees_neighbours scenario.agents ≡ false → IsUnbuilt bytes → ⊥
-built_or_unbuilt bytes scenario ok unseeing (inl posted) = cc (ok.built, posted)
-built_or_unbuilt bytes scenario ok unseeing (inr (other, also, many)) =
-    let same : scenario ≡ other = cc (ok.read, also.read) in
-    cc (unseeing, subst (λ (s : Parts). sees_neighbours s.agents ≡ true) (sym same) many)
-
--- bytes of a scenario that the step is built for
-pub is_taken : (bytes : List ℕ) (scenario : Parts) → StandsFor bytes scenario → sees_neighbours scenario.agents ≡ false → IsTaken bytes
-is_taken bytes scenario ok unseeing = (
-  (λ (index, cause, told). accepted_or_refused (records_of bytes) scenario index cause ok told),
-  built_or_unbuilt bytes scenario ok unseeing,
-)
+-- the bytes of a scenario
+pub is_taken : (bytes : List ℕ) (scenario : Parts) → StandsFor bytes scenario → IsTaken bytes
+is_taken bytes scenario ok = ((λ (index, cause, told). accepted_or_refused (records_of bytes) scenario index cause ok told), (λ posted. cc (ok.built, posted)))
 
 -- all the bytes were read
 module _ (left after : Option (List ℕ)) (bytes : List ℕ) (limit : ℕ) (all : Consumes left after bytes) (end : IsAtEnd after) (short : length bytes ≤ limit) where

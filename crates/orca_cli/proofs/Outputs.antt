@@ -8,7 +8,6 @@ use Rattle.outside_io.specs.Causes.{AppendsPrefix, HasCause, Rose, Wrote}
 use Rattle.crowd_data.specs.Scenario.{Parts}
 use Rattle.crowd_data.specs.declared.post.Post.{Post}
 use Rattle.crowd_data.specs.Run.{IsRun, Snapshot, scripts_of}
-use Rattle.frame_step.specs.Sight.{sees_neighbours}
 use Rattle.frame_text.specs.Transcript.{IsTranscript}
 use Rattle.orca_cli.specs.Output.{EveryRunIsSafe, IsOutput, IsSafeRun, StandsFor}
 use Rattle.orca_cli.specs.Status.{IsTaken}
@@ -33,8 +32,8 @@ safe_bytes bytes scenario e law other f lists frames run =
     let same : scenario ≡ other = cc (e.read, f.read) in
     subst (λ (s : Parts). IsRun s lists frames → IsSafeRun s frames) same (law lists frames) run
 
--- all the bytes were read, they stand for a scenario that a stepper is built for, and this is the transcript of its run
-module _ (left after : Option (List ℕ)) (bytes : List ℕ) (limit : ℕ) (all : Consumes left after bytes) (end : IsAtEnd after) (short : length bytes ≤ limit) (scenario : Parts) (stands : StandsFor bytes scenario) (unseeing : sees_neighbours scenario.agents ≡ false)
+-- all the bytes were read, they stand for a scenario, and this is the transcript of its run
+module _ (left after : Option (List ℕ)) (bytes : List ℕ) (limit : ℕ) (all : Consumes left after bytes) (end : IsAtEnd after) (short : length bytes ≤ limit) (scenario : Parts) (stands : StandsFor bytes scenario)
     (law : (lists : List (List Post)) → (frames : List Snapshot) → IsRun scenario lists frames → IsSafeRun scenario frames)
     {T E : Type 0} (a b : Option (List ℕ)) (r : Result T E) (held : Parts) (same : held ≡ scenario) (wrote : (text : List ℕ) × IsTranscript held (scripts_of held) text × Wrote a b r text) where
   is_output : IsOutput bytes wrote.0
@@ -44,10 +43,10 @@ module _ (left after : Option (List ℕ)) (bytes : List ℕ) (limit : ℕ) (all 
   pub written : is_err r ≡ false → IfSome left (λ whole. (length whole ≤ limit) × ((text : List ℕ) × IsOutput whole text × Appends a b text) × EveryRunIsSafe whole × IsTaken whole)
   written fine =
       Consumes-whole left after bytes (λ whole. (length whole ≤ limit) × ((text : List ℕ) × IsOutput whole text × Appends a b text) × EveryRunIsSafe whole × IsTaken whole) all end
-      (short, (wrote.0, is_output, wrote_ok a b r _ fine wrote.2), safe_bytes bytes scenario stands law, is_taken bytes scenario stands unseeing)
+      (short, (wrote.0, is_output, wrote_ok a b r _ fine wrote.2), safe_bytes bytes scenario stands law, is_taken bytes scenario stands)
 
   -- a prefix of its output was written
   pub cut_short : is_err r ≡ true → IfSome left (λ whole. (length whole ≤ limit) × ((text : List ℕ) × IsOutput whole text × AppendsPrefix a b text) × EveryRunIsSafe whole × IsTaken whole)
   cut_short failed =
       Consumes-whole left after bytes (λ whole. (length whole ≤ limit) × ((text : List ℕ) × IsOutput whole text × AppendsPrefix a b text) × EveryRunIsSafe whole × IsTaken whole) all end
-      (short, (wrote.0, is_output, wrote_err a b r _ failed wrote.2), safe_bytes bytes scenario stands law, is_taken bytes scenario stands unseeing)
+      (short, (wrote.0, is_output, wrote_err a b r _ failed wrote.2), safe_bytes bytes scenario stands law, is_taken bytes scenario stands)

@@ -1,10 +1,10 @@
 -- The text of the frames behind a frame, one frame at a time, and that of a whole run.
-use Rattle.std.proofs.Common.{⊎_elim, ◌≡◌, ◌∙◌, ◌≤◌, ◌+◌, ◌-◌, ◌++◌, List, [], ◌∷◌, ℕ, zero, suc, false, refl, sym, ap, subst, arith, append_assoc}
+use Rattle.std.proofs.Common.{⊎_elim, ◌≡◌, ◌∙◌, ◌≤◌, ◌+◌, ◌-◌, ◌++◌, List, [], ◌∷◌, ℕ, zero, suc, refl, sym, ap, subst, arith, append_assoc}
 use Rattle.std.proofs.lemmas.Bool.{cases_lt}
 use Rattle.crowd_data.specs.declared.post.Post.{Post}
 use Rattle.crowd_data.specs.Run.{Follow, IsNext, Snapshot, script_of, scripted_from, scripts_from, scripts_of, start_of}
-use Rattle.crowd_data.specs.Scenario.{Parts}
-use Rattle.frame_step.specs.Sight.{sees_neighbours}
+use Rattle.crowd_data.specs.Scenario.{IsValid, Parts}
+use Rattle.body_law.proofs.WithinSpeed.{IsFull, next_full}
 use Rattle.frame_step.proofs.NextFrame.{some_next}
 use Rattle.frame_text.specs.Lines.{end_line}
 use Rattle.frame_text.specs.Transcript.{IsTranscript, frame_text, frames_text, last_number, scenario_text}
@@ -44,16 +44,16 @@ module _ (scenario : Parts) where
           ap (λ t. frame_text next [] ++ t) behind.2 ∙ sym (append_assoc (frame_text next []) (frames_text (scripts_from scenario (frame.number + 1 + 1) (scenario.steps - next.number)) behind.0) (end_line (last_number (next ∷ behind.0)))),
         ))
 
-    -- there is one, whatever the frame
-    pub some_behind : sees_neighbours scenario.agents ≡ false → (frame : Snapshot) → (text : List ℕ) × IsTextBehind scenario frame text
-    some_behind unseeing frame = by (scenario.steps - frame.number) frame (omega arith)
+    -- there is one behind each frame that has a body for each agent
+    pub some_behind : IsValid scenario → (frame : Snapshot) → IsFull scenario frame → (text : List ℕ) × IsTextBehind scenario frame text
+    some_behind valid frame full = by (scenario.steps - frame.number) frame full (omega arith)
       where
-        by : (left : ℕ) (frame : Snapshot) → scenario.steps - frame.number ≤ left → (text : List ℕ) × IsTextBehind scenario frame text
-        by zero frame h = (end_line frame.number, behind_none frame (omega arith))
-        by (suc left) frame h = ⊎_elim
+        by : (left : ℕ) (frame : Snapshot) → IsFull scenario frame → scenario.steps - frame.number ≤ left → (text : List ℕ) × IsTextBehind scenario frame text
+        by zero frame full h = (end_line frame.number, behind_none frame (omega arith))
+        by (suc left) frame full h = ⊎_elim
             (λ below.
-            let (next, step) = some_next scenario frame below unseeing in
-            let (text, behind) = by left next (omega (arith, step.number)) in
+            let (next, step) = some_next scenario frame valid full below in
+            let (text, behind) = by left next (next_full scenario frame next [] full step) (omega (arith, step.number)) in
             (frame_text next [] ++ text, behind_more frame next text step behind))
             (λ over. (end_line frame.number, behind_none frame over))
             (cases_lt frame.number scenario.steps)

@@ -1,13 +1,13 @@
 -- What is written of a run: the frames one after another, or a prefix of the whole where a write failed.
-use Rattle.std.proofs.Common.{◌≡◌, ◌≤◌, ◌++◌, List, [], ℕ, Result, sym, subst, false, append_assoc}
+use Rattle.std.proofs.Common.{◌≡◌, ◌≤◌, ◌++◌, List, [], ℕ, Result, sym, subst, append_assoc}
 use Rattle.std.specs.declared.option.Option.{Option}
 use Rattle.std.specs.Io.KnownBytes.{Appends}
 use Rattle.std.proofs.KnownBytes.{Appends-nil, Appends-trans}
 use Rattle.outside_io.specs.Causes.{AppendsPrefix, Wrote}
 use Rattle.outside_io.proofs.WroteLemmas.{prefix_longer, prefix_then, wrote_then}
 use Rattle.crowd_data.specs.Run.{IsNext, Snapshot, scripts_of, start_of}
-use Rattle.crowd_data.specs.Scenario.{Parts}
-use Rattle.frame_step.specs.Sight.{sees_neighbours}
+use Rattle.crowd_data.specs.Scenario.{IsValid, Parts}
+use Rattle.body_law.proofs.WithinSpeed.{IsFull, start_full}
 use Rattle.frame_text.specs.Lines.{end_line}
 use Rattle.frame_text.specs.Transcript.{IsTranscript, frame_text, scenario_text}
 use Rattle.orca_cli.specs.Behind.{IsTextBehind}
@@ -34,20 +34,20 @@ module _ (scenario : Parts) (first : Snapshot) (a b : Option (List ℕ)) where
       → {T E : Type 0} (c : Option (List ℕ)) (r : Result T E) → Wrote b c r (end_line present.number) → WroteBehind c r
   ended present over (done, whole, held) c r w = (done ++ end_line present.number, whole (end_line present.number) (behind_none scenario present over), wrote_then a b c r done (end_line present.number) held w)
 
-  module _ (unposted : scenario.posts ≡ []) (present next : Snapshot) (step : IsNext scenario present [] next) (part : IsPart scenario first present a b) where
+  module _ (unposted : scenario.posts ≡ []) (before next : Snapshot) (step : IsNext scenario before [] next) (part : IsPart scenario first before a b) where
     -- one more frame
     more : (text : List ℕ) → IsTextBehind scenario next text → IsTextBehind scenario first ((part.0 ++ frame_text next []) ++ text)
     more text behind =
-        subst (IsTextBehind scenario first) (sym (append_assoc part.0 (frame_text next []) text)) (part.1 (frame_text next [] ++ text) (behind_more scenario unposted present next text step behind))
+        subst (IsTextBehind scenario first) (sym (append_assoc part.0 (frame_text next []) text)) (part.1 (frame_text next [] ++ text) (behind_more scenario unposted before next text step behind))
 
     pub part_more : (shown : Snapshot) → shown ≡ next → (c : Option (List ℕ)) → Appends b c (frame_text shown []) → IsPart scenario first next a c
     part_more shown same c held = (part.0 ++ frame_text next [], more, Appends-trans a b c part.0 (frame_text next []) part.2 (subst (λ f. Appends b c (frame_text f [])) same held))
 
     -- a failure in the midst of it
-    pub broken_off : sees_neighbours scenario.agents ≡ false → (shown : Snapshot) → shown ≡ next → (c : Option (List ℕ)) → AppendsPrefix b c (frame_text shown [])
+    pub broken_off : IsValid scenario → IsFull scenario next → (shown : Snapshot) → shown ≡ next → (c : Option (List ℕ)) → AppendsPrefix b c (frame_text shown [])
         → (text : List ℕ) × IsTextBehind scenario first text × AppendsPrefix a c text
-    broken_off unseeing shown same c p =
-        let (rest, behind) = some_behind scenario unposted unseeing next in (
+    broken_off valid full shown same c p =
+        let (rest, behind) = some_behind scenario unposted valid next full in (
           (part.0 ++ frame_text next []) ++ rest,
           more rest behind,
           prefix_longer a c (part.0 ++ frame_text next []) rest (prefix_then a b c part.0 (frame_text next []) part.2 (subst (λ f. AppendsPrefix b c (frame_text f [])) same p)),
@@ -55,22 +55,25 @@ module _ (scenario : Parts) (first : Snapshot) (a b : Option (List ℕ)) where
 
 -- ---- the whole run
 
-module _ (scenario : Parts) (unposted : scenario.posts ≡ []) (first : Snapshot) (start : first ≡ start_of scenario) (a b : Option (List ℕ)) where
+module _ (scenario : Parts) (valid : IsValid scenario) (unposted : scenario.posts ≡ []) (first : Snapshot) (start : first ≡ start_of scenario) (a b : Option (List ℕ)) where
+  begun : IsFull scenario first
+  begun = rw start (start_full scenario)
+
   -- a prefix of the transcript
   abbrev pub WrotePrefix : Option (List ℕ) → Type 0
   WrotePrefix c = (text : List ℕ) × IsTranscript scenario (scripts_of scenario) text × AppendsPrefix a c text
 
   -- a failure in the midst of the scenario's text
-  pub text_broken_off : sees_neighbours scenario.agents ≡ false → AppendsPrefix a b (scenario_text scenario) → WrotePrefix b
-  text_broken_off unseeing p =
-      let (rest, behind) = some_behind scenario unposted unseeing first in
+  pub text_broken_off : AppendsPrefix a b (scenario_text scenario) → WrotePrefix b
+  text_broken_off p =
+      let (rest, behind) = some_behind scenario unposted valid first begun in
       (scenario_text scenario ++ (frame_text first [] ++ rest), whole_text scenario first rest start behind, prefix_longer a b (scenario_text scenario) (frame_text first [] ++ rest) p)
 
   module _ (c : Option (List ℕ)) (held : Appends a b (scenario_text scenario)) where
     -- or of frame 0
-    pub start_broken_off : sees_neighbours scenario.agents ≡ false → (shown : Snapshot) → shown ≡ first → AppendsPrefix b c (frame_text shown []) → WrotePrefix c
-    start_broken_off unseeing shown same p =
-        let (rest, behind) = some_behind scenario unposted unseeing first in (
+    pub start_broken_off : (shown : Snapshot) → shown ≡ first → AppendsPrefix b c (frame_text shown []) → WrotePrefix c
+    start_broken_off shown same p =
+        let (rest, behind) = some_behind scenario unposted valid first begun in (
           scenario_text scenario ++ (frame_text first [] ++ rest),
           whole_text scenario first rest start behind,
           prefix_then a b c (scenario_text scenario) (frame_text first [] ++ rest) held (prefix_longer b c (frame_text first []) rest (subst (λ f. AppendsPrefix b c (frame_text f [])) same p)),

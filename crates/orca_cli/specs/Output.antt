@@ -1,10 +1,9 @@
 -- What `run` writes for the bytes that it reads, and which bytes it doesn't take.
-use Rattle.std.specs.Prelude.{◌≡◌, ◌⊎◌, ℕ, true, List}
+use Rattle.std.specs.Prelude.{◌≡◌, ℕ, true, List}
 use Rattle.crowd_data.specs.declared.post.Post.{Post}
 use Rattle.crowd_data.specs.Run.{IsRun, Snapshot, scripts_of}
 use Rattle.crowd_data.specs.SafeSteps.{EachStep, KeepsOffWalls, PairsKeepApart}
 use Rattle.crowd_data.specs.Scenario.{Parts}
-use Rattle.frame_step.specs.Sight.{sees_neighbours}
 use Rattle.frame_text.specs.Transcript.{IsTranscript}
 use Rattle.scenario_read.specs.declared.cause.Cause.{Cause}
 use Rattle.scenario_read.specs.declared.cause.ScenarioFault.TheVariants.{At}
@@ -23,10 +22,9 @@ IsRefusedBy bytes index cause = Tells (records_of bytes) (At index cause)
 abbrev pub IsRefused : List ℕ → Type 0
 IsRefused bytes = (index : ℕ) × (cause : Cause) × IsRefusedBy bytes index cause
 
--- a form that isn't built: records of posts or goals, or a scenario of two agents or more, one of which looks
--- for neighbours
+-- a form that isn't built: records of posts or goals
 abbrev pub IsUnbuilt : List ℕ → Type 0
-IsUnbuilt bytes = (has_unbuilt (records_of bytes) ≡ true) ⊎ ((scenario : Parts) × StandsFor bytes scenario × (sees_neighbours scenario.agents ≡ true))
+IsUnbuilt bytes = has_unbuilt (records_of bytes) ≡ true
 
 -- a text is the defined output for bytes: the transcript of their scenario's run with its scripted posts
 abbrev pub IsOutput : List ℕ → List ℕ → Type 0

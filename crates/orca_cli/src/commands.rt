@@ -11,7 +11,7 @@ use crate::run::write_run;
 use crate::status::{Status, code, report};
 use crate::words::is_run;
 use body_law::keeps_off_walls;
-use frame_step::{Stepper, sees_neighbours};
+use frame_step::Stepper;
 use outside_io::{Gate, ReadAllFault, Sink, Source, read_all};
 use pair_law::pairs_keep_apart;
 use scenario_read::{ScenarioFault, read_scenario};
@@ -41,9 +41,6 @@ fn work<S: Source, T: Sink>(alloc: Global, words: &[&str], source: &mut S, out: 
         Err(ScenarioFault::NotBuilt) => return Status::NotYet,
         Err(ScenarioFault::At { index, cause }) => return Status::Refused { index, cause },
     };
-    if sees_neighbours(scenario.agents()) {
-        return Status::NotYet;
-    }
     keeps_off_walls(&scenario);
     pairs_keep_apart(&scenario);
     let Ok(mut stepper) = Stepper::open(alloc, scenario) else {

@@ -11,6 +11,8 @@ pub use commands::offline;
 pub use top_call::orca;
 
 #[cfg(test)]
+mod crowd_tests;
+#[cfg(test)]
 mod tests;
 #[cfg(test)]
 mod wall_tests;

@@ -1,14 +1,7 @@
 // Runs among walls, and of several agents that look for no neighbours. The frames were computed by hand
 // or from the definitions by a program of another make.
-use crate::tests::run;
-use std::alloc::Global;
+use crate::tests::ends_with;
 use std::test::Fail;
-
-// Whether the run of an input ends with these lines.
-fn ends_with(alloc: Global, input: &[u8], lines: &[u8]) -> Result<bool, Fail> {
-    let ended = run(alloc, input)?;
-    Ok(ended.status == 0 && ended.out.held().ends_with(lines))
-}
 
 #[test]
 fn wall_foot_inside(rt: HostRuntime) -> Result<(), Fail> {

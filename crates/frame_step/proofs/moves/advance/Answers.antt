@@ -4,16 +4,12 @@ use Rattle.crowd_data.specs.Run.{snapshot_of}
 use Rattle.crowd_data.specs.Limits.{IsVelocity}
 use Rattle.frame_step.proofs.MovedBodies.{AreMoved, MovesTo, body_moved, each_more, next_is}
 use Rattle.frame_step.proofs.Present.{next_present, places_below}
-use Rattle.frame_step.proofs.Unseen.{unseen}
 use Rattle.frame_step.proofs.moves.advance.Goals as goal
 
 pub advise-advice-requires-clause-near : goal.advise-advice-requires-clause-near
 advise-advice-requires-clause-near c =
     let few = c.agents-who-end.ensures.valid.steps in
     rw (c.requires.places) (places_below _ _ c.args.frame.now.number (omega (arith, c.requires.present.number, few)) c.requires.present.come)
-
-pub advise-advice-requires-clause-unseeing : goal.advise-advice-requires-clause-unseeing
-advise-advice-requires-clause-unseeing c = unseen _ _ c.loop-who.who c.requires.unseeing
 
 pub loop-who-preserved : goal.loop-who-preserved
 loop-who-preserved c =

@@ -1,7 +1,6 @@
-use Rattle.std.proofs.Common.{◌≡◌, ◌∙◌, true, false, refl, sym, subst, inr}
+use Rattle.std.proofs.Common.{◌∙◌, refl, sym}
 use Rattle.std.proofs.KnownBytes.{Keeps-refl}
-use Rattle.frame_step.specs.Sight.{sees_neighbours}
-use Rattle.orca_cli.proofs.Forms.{refused, unbuilt}
+use Rattle.orca_cli.proofs.Forms.{refused}
 use Rattle.orca_cli.proofs.Outputs.{cut_short, rose_err, written}
 use Rattle.orca_cli.proofs.Unposted.{unposted}
 use Rattle.orca_cli.proofs.commands.work.Goals as goal
@@ -16,17 +15,6 @@ returns-in-Err-At g c =
       (Keeps-refl _, refl),
     )
 
-pub returns-then-sees_neighbours : goal.returns-then-sees_neighbours
-returns-then-sees_neighbours g c =
-    let read = c.in-Ok.ensures in
-    let stands = rw c.items.ensures at c.in-Ok-read_scenario.ensures.accepted in
-    let sees : sees_neighbours c.in-Ok-read_scenario.scenario.agents ≡ true = subst (λ agents. sees_neighbours agents ≡ true) c.agents.ensures.value (sym c.sees_neighbours.ensures ∙ c.if-sees_neighbours.true) in (
-      sym c.is_run.ensures ∙ c.if-not-is_run.false,
-      unbuilt _ _ c.in-Ok.bytes.items _ read.all read.end read.short (inr (c.in-Ok-read_scenario.scenario, stands, sees)),
-      read.end,
-      (Keeps-refl _, refl),
-    )
-
 pub write_run-requires-clause-unposted : goal.write_run-requires-clause-unposted
 write_run-requires-clause-unposted g c =
     let stands = rw c.items.ensures at c.in-Ok-read_scenario.ensures.accepted in
@@ -36,10 +24,9 @@ pub returns-then-is_err : goal.returns-then-is_err
 returns-then-is_err g c =
     let read = c.in-Ok.ensures in
     let stands = rw c.items.ensures at c.in-Ok-read_scenario.ensures.accepted in
-    let unseeing : sees_neighbours c.in-Ok-read_scenario.scenario.agents ≡ false = subst (λ agents. sees_neighbours agents ≡ false) c.agents.ensures.value (sym c.sees_neighbours.ensures ∙ c.if-sees_neighbours.false) in
     let failed = sym c.is_err.ensures.value ∙ c.if-is_err.true in (
       sym c.is_run.ensures ∙ c.if-not-is_run.false,
-      cut_short _ _ c.in-Ok.bytes.items _ read.all read.end read.short c.in-Ok-read_scenario.scenario stands unseeing (λ lists frames run. (c.keeps_off_walls.ensures lists frames run, c.pairs_keep_apart.ensures lists frames run))
+      cut_short _ _ c.in-Ok.bytes.items _ read.all read.end read.short c.in-Ok-read_scenario.scenario stands (λ lists frames run. (c.keeps_off_walls.ensures lists frames run, c.pairs_keep_apart.ensures lists frames run))
           _ _ c.write_run.result _ c.in-Ok-open.ensures.scenario c.write_run.ensures.text failed,
       read.end,
       rose_err _ _ _ failed c.write_run.ensures.cause,
@@ -49,10 +36,9 @@ pub returns : goal.returns
 returns g c =
     let read = c.in-Ok.ensures in
     let stands = rw c.items.ensures at c.in-Ok-read_scenario.ensures.accepted in
-    let unseeing : sees_neighbours c.in-Ok-read_scenario.scenario.agents ≡ false = subst (λ agents. sees_neighbours agents ≡ false) c.agents.ensures.value (sym c.sees_neighbours.ensures ∙ c.if-sees_neighbours.false) in
     let fine = sym c.is_err.ensures.value ∙ c.if-is_err.false in (
       sym c.is_run.ensures ∙ c.if-not-is_run.false,
-      written _ _ c.in-Ok.bytes.items _ read.all read.end read.short c.in-Ok-read_scenario.scenario stands unseeing (λ lists frames run. (c.keeps_off_walls.ensures lists frames run, c.pairs_keep_apart.ensures lists frames run))
+      written _ _ c.in-Ok.bytes.items _ read.all read.end read.short c.in-Ok-read_scenario.scenario stands (λ lists frames run. (c.keeps_off_walls.ensures lists frames run, c.pairs_keep_apart.ensures lists frames run))
           _ _ c.write_run.result _ c.in-Ok-open.ensures.scenario c.write_run.ensures.text fine,
       read.end,
     )

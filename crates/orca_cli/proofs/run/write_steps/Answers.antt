@@ -1,7 +1,8 @@
-use Rattle.std.proofs.Common.{◌∙◌, ap, arith}
+use Rattle.std.proofs.Common.{◌∙◌, ap, subst, arith}
 use Rattle.std.proofs.lemmas.Result.{err_from_is_err_and}
 use Rattle.crowd_data.specs.Run.{Snapshot}
 use Rattle.crowd_data.specs.Scenario.{Parts}
+use Rattle.body_law.proofs.WithinSpeed.{IsFull}
 use Rattle.orca_cli.proofs.Written.{broken_off, ended, part_more}
 use Rattle.orca_cli.proofs.run.write_steps.Goals as goal
 
@@ -19,8 +20,8 @@ returns-in_err-write_frame-clause-text g c =
     let (same, part, later) = c.loop-stepper.invariant in
     let step = rw same at c.step.ensures.next in
     let p = err_from_is_err_and c.from_residual.result c.from_residual.ensures.1 in
-    rw p.1 (broken_off c.args.stepper.now.scenario c.args.stepper.now.frame _ _ c.requires.unposted c.loop-stepper.stepper.frame c.step.new.self.frame step part c.scenario.ensures.built
-    _ c.frame-in-loop-stepper.ensures.value _ c.in_err-write_frame.ensures.text)
+    rw p.1 (broken_off c.args.stepper.now.scenario c.args.stepper.now.frame _ _ c.requires.unposted c.loop-stepper.stepper.frame c.step.new.self.frame step part c.scenario.ensures.valid
+    (subst (λ s. IsFull s c.step.new.self.frame) (c.step.ensures.scenario ∙ same) c.frame-in-loop-stepper.ensures.present.full) _ c.frame-in-loop-stepper.ensures.value _ c.in_err-write_frame.ensures.text)
 
 pub returns-clause-text : goal.returns-clause-text
 returns-clause-text g c =

@@ -1,13 +1,33 @@
-use Rattle.std.proofs.Common.{ap, arith, length}
+use Rattle.std.proofs.Common.{◌∙◌, ap, arith, length, sym, subst}
+use Rattle.crowd_data.specs.Run.{Snapshot}
+use Rattle.agent_kdtree.specs.Stands.{HasRoomFor}
+use Rattle.agent_step.proofs.CrowdPlaces.{length-places}
+use Rattle.body_law.proofs.WithinSpeed.{start_full}
 use Rattle.frame_step.proofs.Present.{start_present}
 use Rattle.frame_step.proofs.stepper.Stepper.open.Goals as goal
 
+pub place_all-requires-clause-full : goal.place_all-requires-clause-full
+place_all-requires-clause-full c =
+    let full = ap (λ (s : Snapshot). length s.bodies) c.in_ok-frame.ensures ∙ start_full c.args.scenario in
+    ap length c.items.ensures ∙ full ∙ sym (ap length c.agents-2.ensures.value)
+
+pub open-requires-3 : goal.open-requires-3
+open-requires-3 c =
+    let full = ap (λ (s : Snapshot). length s.bodies) c.in_ok-frame.ensures ∙ start_full c.args.scenario in
+    let are = c.items-2.ensures ∙ (rw (c.agents-2.ensures.value, c.items.ensures) at c.place_all.ensures.places) in
+    omega (arith, length-places _ _ _ full are, c.agents-2.ensures.valid.agent_count)
+
 pub invariant_of-result : goal.invariant_of-result
-invariant_of-result c = let count = ap length c.agents-agents.ensures.value in record {
-  present = rw (c.in_ok-frame.ensures) (start_present c.args.scenario c.agents-agents.ensures.valid);
-  unseeing = c.requires;
-  polygons = rw c.agents.ensures.value at c.in_ok-polygons.ensures;
-  bodies = omega (arith, count, c.in_ok-next.ensures.room);
-  places = omega (arith, count, c.in_ok-places.ensures.room);
-  planes = omega (arith, ap length c.segments.ensures.value, c.in_ok-scratch.ensures);
-}
+invariant_of-result c =
+    let count = ap length c.agents-agents.ensures.value in
+    let full = ap (λ (s : Snapshot). length s.bodies) c.in_ok-frame.ensures ∙ start_full c.args.scenario in
+    let are = c.items-2.ensures ∙ (rw (c.agents-2.ensures.value, c.items.ensures) at c.place_all.ensures.places) in
+    record {
+      valid = c.agents-agents.ensures.valid;
+      present = rw (c.in_ok-frame.ensures) (start_present c.args.scenario c.agents-agents.ensures.valid);
+      polygons = rw c.agents.ensures.value at c.in_ok-polygons.ensures;
+      bodies = omega (arith, count, c.in_ok-next.ensures.room);
+      places = omega (arith, ap length c.agents-2.ensures.value, c.place_all.ensures.room);
+      tree = subst (HasRoomFor c.in_ok-tree.tree) (length-places _ _ _ full are) c.in_ok-tree.ensures;
+      planes = omega (arith, ap length c.segments.ensures.value, c.in_ok-scratch.ensures);
+    }

@@ -1,0 +1,125 @@
+-- The shares of an agent that is present: which pairs they are made from, and how large they are.
+use Rattle.std.proofs.Common.{◌≡◌, ◌<◌, ◌≤◌, ◌^◌, ℕ, Bool, true, false, cond, ltb, List, [], ◌∷◌, length, All, sym, ap, subst, arith, unsigned_abs}
+use Rattle.std.specs.Prelude.{min}
+use Rattle.std.proofs.lemmas.Bool.{le-ltb, lt-ltb}
+use Rattle.std.proofs.lemmas.Int.{ints}
+use Rattle.std.proofs.lemmas.List.Elements.{All-map, All-weaker}
+use Rattle.exact_algebra.proofs.Ring.{quotes, equal}
+use Rattle.fixed_vec.specs.declared.vector.V2.{V2}
+use Rattle.fixed_vec.specs.Vector.{minus, square}
+use Rattle.fixed_vec.specs.HalfPlane.{Plane, drawn_of}
+use Rattle.crowd_data.specs.declared.agent.Agent.{Agent}
+use Rattle.crowd_data.specs.declared.frame.Body.{Body}
+use Rattle.crowd_data.specs.Advice.{agent_at, disc_of, neighbours_of, nobody, share_against, soft_planes}
+use Rattle.crowd_data.specs.Limits.{IsBuild, IsVelocity}
+use Rattle.crowd_data.specs.Neighbours.{squared_gap}
+use Rattle.crowd_data.specs.Pairs.{IsPair, higher_share, lower_share}
+use Rattle.crowd_data.specs.Run.{body_at, crowd_of, no_body, standing}
+use Rattle.body_law.proofs.Crowds.{agent_at-crowd_of}
+use Rattle.pair_plane.proofs.Shares.{higher_sized, lower_sized}
+use Rattle.pair_plane.proofs.Sized.{Sized, drawn_sized}
+use Rattle.agent_step.specs.Sight.{ArePresent, IsSeen}
+use Rattle.agent_step.proofs.CrowdPlaces.{length-crowd_of}
+use Rattle.agent_step.proofs.Sight.{neighbours_seen}
+
+-- ---- pairs
+
+-- an agent that can be one of a pair
+pub record CanMove (agent : Agent) : Type 0 where
+  pub build : IsBuild agent
+  pub vel : IsVelocity agent.vel
+
+pair_of : (a b : Agent) → CanMove a → CanMove b → squared_gap b.pos a.pos < 2 ^ 32 → IsPair (disc_of a) (disc_of b) (min a.horizon b.horizon)
+pair_of a b h k near = record {
+  near = omega (arith, ints, near);
+  low_vel = h.vel;
+  high_vel = k.vel;
+  some_low_radius = h.build.some_radius;
+  low_radius = h.build.radius;
+  some_high_radius = k.build.some_radius;
+  high_radius = k.build.radius;
+  some_tau = omega (arith, h.build.some_horizon, k.build.some_horizon);
+  tau_limit = omega (arith, h.build.horizon, k.build.horizon);
+}
+
+-- as far from b to a as from a to b
+squared_gap-turned : (a b : V2) → squared_gap a b ≡ squared_gap b a
+squared_gap-turned a b =
+    let e : square (minus a b) ≡ square (minus b a) = equal (a.x ∷ a.y ∷ b.x ∷ b.y ∷ []) (search quotes depth 40) tt in
+    ap unsigned_abs e
+
+standing_build : (agent : Agent) (body : Body) → IsBuild agent → IsBuild (standing agent body)
+standing_build agent body h = record {
+  some_radius = h.some_radius;
+  radius = h.radius;
+  speed = h.speed;
+  range = h.range;
+  most = h.most;
+  some_horizon = h.some_horizon;
+  horizon = h.horizon;
+  some_wall_horizon = h.some_wall_horizon;
+  wall_horizon = h.wall_horizon;
+}
+
+-- which share is taken
+chosen : (t : Bool) (x y : Plane) → t ≡ true → drawn_of (cond t x y) ≡ drawn_of x
+chosen t x y e = ap (λ t. drawn_of (cond t x y)) e
+
+left_out : (t : Bool) (x y : Plane) → t ≡ false → drawn_of (cond t x y) ≡ drawn_of y
+left_out t x y e = ap (λ t. drawn_of (cond t x y)) e
+
+pub lower_against : (crowd : List Agent) (who other : ℕ) → who < other
+    → share_against crowd who other
+    ≡ drawn_of (lower_share (disc_of (agent_at crowd who)) (disc_of (agent_at crowd other)) (min (agent_at crowd who).horizon (agent_at crowd other).horizon))
+lower_against crowd who other h = chosen (ltb who other) _ _ (lt-ltb who other h)
+
+pub higher_against : (crowd : List Agent) (who other : ℕ) → other ≤ who
+    → share_against crowd who other
+    ≡ drawn_of (higher_share (disc_of (agent_at crowd other)) (disc_of (agent_at crowd who)) (min (agent_at crowd other).horizon (agent_at crowd who).horizon))
+higher_against crowd who other h = left_out (ltb who other) _ _ (le-ltb who other h)
+
+module _ (agents : List Agent) (bodies : List Body) (present : ArePresent agents bodies) where
+  horizon-at : (who : ℕ) → who < length agents → (agent_at agents who).horizon ≡ (agent_at (crowd_of agents bodies) who).horizon
+  horizon-at who h = ap (λ (agent : Agent). agent.horizon) (sym (agent_at-crowd_of agents bodies who h present.count))
+
+  pub moves-at : (who : ℕ) → who < length agents → CanMove (agent_at (crowd_of agents bodies) who)
+  moves-at who h =
+      subst CanMove (sym (agent_at-crowd_of agents bodies who h present.count))
+      (record { build = standing_build (agent_at agents who) (body_at bodies who) (present.sound who nobody h).build; vel = present.slow who no_body (omega (arith, h, present.count)) })
+
+  module _ (who other : ℕ) (here : who < length agents) (seen : IsSeen (crowd_of agents bodies) who other) where
+    abbrev a : Agent
+    a = agent_at (crowd_of agents bodies) who
+
+    abbrev b : Agent
+    b = agent_at (crowd_of agents bodies) other
+
+    pub there : other < length agents
+    there = omega (arith, seen.there, length-crowd_of agents bodies present.count)
+
+    pub lower_horizon : min (agent_at agents who).horizon (agent_at agents other).horizon ≡ min a.horizon b.horizon
+    lower_horizon = let e = horizon-at who here in let f = horizon-at other there in omega (arith, e, f)
+
+    pub higher_horizon : min (agent_at agents who).horizon (agent_at agents other).horizon ≡ min b.horizon a.horizon
+    higher_horizon = let e = horizon-at who here in let f = horizon-at other there in omega (arith, e, f)
+
+    pub lower_pair : IsPair (disc_of a) (disc_of b) (min a.horizon b.horizon)
+    lower_pair = pair_of a b (moves-at who here) (moves-at other there) seen.near
+
+    pub higher_pair : IsPair (disc_of b) (disc_of a) (min b.horizon a.horizon)
+    higher_pair = pair_of b a (moves-at other there) (moves-at who here) (omega (arith, seen.near, squared_gap-turned a.pos b.pos))
+
+    -- drawn in, the share is at most 200,585 lengths off
+    share_sized : Sized (share_against (crowd_of agents bodies) who other) 200585
+    share_sized = either (ltb who other) _ _ (lower_sized _ _ _ lower_pair) (higher_sized _ _ _ higher_pair)
+      where
+        either : (t : Bool) (x y : Plane) → Sized x 200584 → Sized y 200584 → Sized (drawn_of (cond t x y)) 200585
+        either true x y h k = drawn_sized x 200584 h
+        either false x y h k = drawn_sized y 200584 k
+
+  pub soft_sized : (who : ℕ) → who < length agents → All (λ plane. Sized plane 200585) (soft_planes (crowd_of agents bodies) who)
+  soft_sized who h =
+      All-map (λ plane. Sized plane 200585) (share_against (crowd_of agents bodies) who) (neighbours_of (crowd_of agents bodies) who)
+      (All-weaker (IsSeen (crowd_of agents bodies) who) (λ other. Sized (share_against (crowd_of agents bodies) who other) 200585)
+      (λ other seen. share_sized who other h seen) (neighbours_of (crowd_of agents bodies) who)
+      (neighbours_seen (crowd_of agents bodies) who (moves-at who h).build.range))
