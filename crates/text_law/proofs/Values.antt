@@ -51,15 +51,15 @@ segment_is s h =
 pub agent_is : (a : Agent) → IsAgent a → agent_of (agent_row a) ≡ Ok a
 unfolding agent_of motion_in agent_with field_at
 agent_is a h =
-    let row = agent_row a in
+    let fields = agent_row a in
     rw (
-      vector_is row 1 2 4194304 a.pos refl refl h.pos (omega arith),
-      vector_is row 3 4 16384 a.vel refl refl h.vel (omega arith),
-      vector_is row 5 6 16384 a.pref refl refl h.pref (omega arith),
-      count_is row 7 1 32768 a.radius refl h.build.some_radius h.build.radius (omega arith),
-      count_is row 8 0 16384 a.speed refl (omega arith) h.build.speed (omega arith),
-      count_is row 9 0 65536 a.range refl (omega arith) h.build.range (omega arith),
-      count_is row 10 0 64 a.most refl (omega arith) h.build.most (omega arith),
-      count_is row 11 1 4096 a.horizon refl h.build.some_horizon h.build.horizon (omega arith),
-      count_is row 12 1 4096 a.wall_horizon refl h.build.some_wall_horizon h.build.wall_horizon (omega arith),
+      vector_is fields 1 2 4194304 a.pos refl refl h.pos (omega arith),
+      vector_is fields 3 4 16384 a.vel refl refl h.vel (omega arith),
+      vector_is fields 5 6 16384 a.pref refl refl h.pref (omega arith),
+      count_is fields 7 1 32768 a.radius refl h.build.some_radius h.build.radius (omega arith),
+      count_is fields 8 0 16384 a.speed refl (omega arith) h.build.speed (omega arith),
+      count_is fields 9 0 65536 a.range refl (omega arith) h.build.range (omega arith),
+      count_is fields 10 0 64 a.most refl (omega arith) h.build.most (omega arith),
+      count_is fields 11 1 4096 a.horizon refl h.build.some_horizon h.build.horizon (omega arith),
+      count_is fields 12 1 4096 a.wall_horizon refl h.build.some_wall_horizon h.build.wall_horizon (omega arith),
     ) refl
