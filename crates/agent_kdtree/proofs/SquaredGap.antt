@@ -1,13 +1,10 @@
 -- The squared distance, by the sizes of two differences.
 use Rattle.std.proofs.Common.{◌≡◌, ◌^◌, ◌+◌, ◌*◌, ◌≤◌, ℕ, refl, sym, ◌∙◌, arith, ℤ, pos, negsuc, ◌+ℤ◌, ◌-ℤ◌, ◌*ℤ◌, unsigned_abs, FitsSigned, to_z, of_z, w64, to_z-of_z, mul-le-mul}
 use Rattle.std.proofs.lemmas.Int.{ints}
+use Rattle.exact_algebra.proofs.Sizes.{square_abs}
 use Rattle.fixed_vec.specs.declared.vector.V2.{V2}
 use Rattle.fixed_vec.specs.Vector.{IsBelow}
 use Rattle.crowd_data.specs.Neighbours.{squared_gap}
-
-square_abs : (z : ℤ) → z *ℤ z ≡ pos (unsigned_abs z * unsigned_abs z)
-square_abs (pos n) = omega (arith, ints)
-square_abs (negsuc n) = omega (arith, ints)
 
 -- it is the sum of the squares of the sizes
 pub squared_gap-sizes : (a b : V2) (m n : ℕ) → m ≡ unsigned_abs (a.x -ℤ b.x) → n ≡ unsigned_abs (a.y -ℤ b.y) → squared_gap a b ≡ m * m + n * n

@@ -17,7 +17,7 @@ pub record IsNoHigher (a b : V2) : Type 0 where
   pub x : a.x ≤ℤ b.x
   pub y : a.y ≤ℤ b.y
 
-pub record IsWithin (b : Bounds) (v : V2) : Type 0 where
+pub record IsInBounds (b : Bounds) (v : V2) : Type 0 where
   pub left : b.low.x ≤ℤ v.x
   pub right : v.x ≤ℤ b.high.x
   pub below : b.low.y ≤ℤ v.y
@@ -25,7 +25,7 @@ pub record IsWithin (b : Bounds) (v : V2) : Type 0 where
 
 -- what a box says of a place
 pub record Covers (b : Bounds) (p : Place) : Type 0 where
-  pub within : IsWithin b p.pos
+  pub within : IsInBounds b p.pos
   pub arm : p.radius + p.speed ≤ b.arm
 
 abbrev pub CoversAll : Bounds → List Place → List ℕ → Type 0

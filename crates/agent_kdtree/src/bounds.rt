@@ -4,7 +4,7 @@ ghost use Rattle.fixed_vec.specs.declared.vector.V2.{V2};
 ghost use Rattle.fixed_vec.specs.Vector.{IsBelow};
 ghost use Rattle.crowd_data.specs.declared.pair.Place.{Place};
 ghost use Rattle.crowd_data.specs.Neighbours.{squared_gap};
-ghost use Rattle.agent_kdtree.specs.Boxes.{Covers, CoversAll, IsBounds, IsNoHigher, IsWithin};
+ghost use Rattle.agent_kdtree.specs.Boxes.{Covers, CoversAll, IsBounds, IsNoHigher, IsInBounds};
 ghost use Rattle.agent_kdtree.specs.Placed.{IsPlaced};
 
 use crowd_data::Place;
@@ -135,7 +135,7 @@ fn beyond(side: Side) -> u64
 pub(crate) fn box_distance(bounds: &Bounds, at: V2) -> u64
     requires bounds { IsBounds bounds.now }
     requires at { IsBelow at (2 ^ 31) }
-    ensures { (v : V2) → IsWithin bounds.now v → result ≤ squared_gap v at }
+    ensures { (v : V2) → IsInBounds bounds.now v → result ≤ squared_gap v at }
 {
     let across = beyond(Side {
         low: bounds.low.x,

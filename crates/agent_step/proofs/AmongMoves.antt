@@ -10,7 +10,7 @@ use Rattle.crowd_data.specs.declared.agent.Agent.{Agent}
 use Rattle.crowd_data.specs.declared.segment.Segment.{Segment}
 use Rattle.crowd_data.specs.declared.frame.Mark.{Mark}
 use Rattle.crowd_data.specs.declared.frame.Mark.TheVariants.{Crowded}
-use Rattle.crowd_data.specs.Advice.{IsCrowded, IsMarked, Moves, StandsStill, agent_at, hard_planes, neighbours_of, planes_at, share_against, soft_planes}
+use Rattle.crowd_data.specs.Advice.{IsCrowded, IsMarked, GivesWay, StandsStill, agent_at, hard_planes, neighbours_of, planes_at, share_against, soft_planes}
 use Rattle.crowd_data.specs.RingPlanes.{ring_planes}
 use Rattle.crowd_data.specs.Walls.{in_reach, wall_plane}
 use Rattle.hard_plane.proofs.Examples.{length-ring_planes}
@@ -74,7 +74,7 @@ module _ (segments : List Segment) (crowd : List Agent) (who hard : ℕ) (planes
   pub relieved_are : (d : ℕ) → relieved_after hard d planes ≡ planes_at segments crowd who d
   relieved_are d = ap (relieved_after hard d) listed.are ∙ relieved_after-joined (hard_planes segments (agent_at crowd who)) (soft_planes crowd who) hard d listed.count
 
-  pub moves_among : (vel : V2) (mark : Mark) (relief : ℕ) → AdvisedAmong hard planes (agent_at crowd who).pref vel mark relief → StandsStill segments crowd who vel mark relief ⊎ Moves segments crowd who vel mark relief
+  pub moves_among : (vel : V2) (mark : Mark) (relief : ℕ) → AdvisedAmong hard planes (agent_at crowd who).pref vel mark relief → StandsStill segments crowd who vel mark relief ⊎ GivesWay segments crowd who vel mark relief
   moves_among vel mark relief advised = ⊎_elim
       (λ stands. inl (record { no_room = subst IsEmpty hard_are stands.no_room; still = stands.still; stopped = stands.stopped; unrelieved = stands.unrelieved }))
       (λ moves. inr

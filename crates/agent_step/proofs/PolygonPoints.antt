@@ -12,7 +12,7 @@ use Rattle.fixed_vec.specs.Point.{IsIn, Rational}
 use Rattle.crowd_data.specs.Limits.{IsVelocity}
 use Rattle.crowd_data.specs.RingPlanes.{ring_planes, ring_planes_of, ring_points}
 use Rattle.hard_plane.proofs.RingPoints.{ring_planes_of-plain}
-use Rattle.hard_plane.proofs.Sizes.{square_abs}
+use Rattle.exact_algebra.proofs.Sizes.{square_abs, root_le}
 use Rattle.body_law.proofs.Lists.{front_of}
 
 -- what is in all half-planes, some of them relieved, is in the hard ones
@@ -34,13 +34,10 @@ polygon_item radius points speed k plane e f h = subst (λ (planes : List Plane)
 
 -- ---- a velocity that is no longer than a speed
 
-root_most : (a b : ℕ) → a * a ≤ b * b → a ≤ b
-root_most a b h = ⊎_elim (λ k. let p : b + 1 ≤ a = omega arith in absurd (omega (arith, mul-le-mul p p))) (λ k. k) (cases_lt b a)
-
 pub short_velocity : (v : V2) (speed : ℕ) → speed ≤ 16384 → square v ≤ℤ (pos speed *ℤ pos speed) → IsVelocity v
 short_velocity v speed most h =
     let e = square_abs v.x in
     let f = square_abs v.y in
-    let across : unsigned_abs v.x ≤ speed = root_most (unsigned_abs v.x) speed (omega (arith, ints)) in
-    let along : unsigned_abs v.y ≤ speed = root_most (unsigned_abs v.y) speed (omega (arith, ints)) in
+    let across : unsigned_abs v.x ≤ speed = root_le (unsigned_abs v.x) speed (omega (arith, ints)) in
+    let along : unsigned_abs v.y ≤ speed = root_le (unsigned_abs v.y) speed (omega (arith, ints)) in
     (omega arith, omega arith)

@@ -5,6 +5,7 @@ use Rattle.std.proofs.lemmas.List.Elements.{All-append, All-map, All-weaker}
 use Rattle.exact_algebra.proofs.Cauchy.{along_le}
 use Rattle.exact_algebra.proofs.Order.{gap_nonneg, product_nonneg, square_nonneg, sum_nonneg}
 use Rattle.exact_algebra.proofs.Ring.{quotes, shown}
+use Rattle.exact_algebra.proofs.Sizes.{whole_root_le}
 use Rattle.fixed_vec.specs.HalfPlane.{Plane, relieved_of, whole_length}
 use Rattle.fixed_vec.specs.Point.{IsIn, IsPoint, Rational}
 use Rattle.crowd_data.specs.RingPlanes.{ring_planes, ring_points}
@@ -12,7 +13,6 @@ use Rattle.planar_line.specs.Relief.{CanBeRelieved, KeepBounds}
 use Rattle.planar_program.specs.Met.{IsMet}
 use Rattle.hard_plane.proofs.RingPoints.{ring_planes_of-plain}
 use Rattle.hard_plane.proofs.ShortPoint.{IsShort}
-use Rattle.hard_plane.proofs.Sizes.{root_le}
 use Rattle.hard_plane.proofs.SpeedPolygon.{ring_short}
 use Rattle.body_law.proofs.Lists.{front_of}
 use Rattle.pair_plane.proofs.Lengths.{length_reaches}
@@ -29,7 +29,7 @@ shares_keep hard planes all = All-weaker (λ plane. Sized plane 200585) (λ plan
 against_le : (a b x y q k l : ℤ) → pos 0 ≤ℤ k → pos 0 ≤ℤ q → pos 0 ≤ℤ l → (x *ℤ x +ℤ y *ℤ y) ≤ℤ (k *ℤ k *ℤ (q *ℤ q)) → (a *ℤ a +ℤ b *ℤ b) ≤ℤ (l *ℤ l)
     → neg_ℤ (a *ℤ x +ℤ b *ℤ y) ≤ℤ (k *ℤ (q *ℤ l))
 against_le a b x y q k l hk hq hl short reaches =
-    root_le (neg_ℤ (a *ℤ x +ℤ b *ℤ y)) (k *ℤ (q *ℤ l)) (product_nonneg k (q *ℤ l) hk (product_nonneg q l hq hl))
+    whole_root_le (neg_ℤ (a *ℤ x +ℤ b *ℤ y)) (k *ℤ (q *ℤ l)) (product_nonneg k (q *ℤ l) hk (product_nonneg q l hq hl))
     (shown (a ∷ b ∷ x ∷ y ∷ q ∷ k ∷ l ∷ [])
     (sum_nonneg _ _ (gap_nonneg _ _ (along_le a b x y))
     (sum_nonneg _ _ (product_nonneg _ (a *ℤ a +ℤ b *ℤ b) (gap_nonneg _ _ short) (sum_nonneg _ _ (square_nonneg a) (square_nonneg b)))

@@ -18,7 +18,7 @@ pub record StandsAmong (hard : ℕ) (planes : List Plane) (vel : V2) (mark : Mar
 
 -- and else relieves the soft ones as little as it can, and takes the rounding of the common point that is
 -- nearest to its preferred velocity
-pub record MovesAmong (hard : ℕ) (planes : List Plane) (pref vel : V2) (mark : Mark) (relief : ℕ) : Type 0 where
+pub record GivesWayAmong (hard : ℕ) (planes : List Plane) (pref vel : V2) (mark : Mark) (relief : ℕ) : Type 0 where
   pub room : IsMet (take hard planes)
   pub least : (d : ℕ) → d < relief → IsEmpty (relieved_after hard d planes)
   pub nearest : (p : Rational) × Nearest (relieved_after hard relief planes) pref p × (vel ≡ rounded_of p)
@@ -26,4 +26,4 @@ pub record MovesAmong (hard : ℕ) (planes : List Plane) (pref vel : V2) (mark :
   pub fallback : relief ≢ 0 → mark ≡ Fallback
 
 abbrev pub AdvisedAmong : ℕ → List Plane → V2 → V2 → Mark → ℕ → Type 0
-AdvisedAmong hard planes pref vel mark relief = StandsAmong hard planes vel mark relief ⊎ MovesAmong hard planes pref vel mark relief
+AdvisedAmong hard planes pref vel mark relief = StandsAmong hard planes vel mark relief ⊎ GivesWayAmong hard planes pref vel mark relief

@@ -3,7 +3,7 @@ ghost use Rattle.std.specs.Prelude.{◌≡◌, ◌≢◌, ◌⊎◌, ◌+◌, �
 ghost use Rattle.fixed_vec.specs.HalfPlane.{Plane};
 ghost use Rattle.fixed_vec.specs.Meeting.{relieved_after};
 ghost use Rattle.fixed_vec.specs.Vector.{IsBelow};
-ghost use Rattle.crowd_data.specs.Advice.{IsAdvice, Moves, StandsStill, agent_at, neighbours_of, place_of};
+ghost use Rattle.crowd_data.specs.Advice.{IsAdvice, GivesWay, StandsStill, agent_at, neighbours_of, place_of};
 ghost use Rattle.crowd_data.specs.Limits.{IsBuild, IsVelocity};
 ghost use Rattle.crowd_data.specs.RingPlanes.{ring_planes};
 ghost use Rattle.crowd_data.specs.Run.{body_at, crowd_of, standing};
@@ -111,7 +111,7 @@ fn advise_against(
     requires near { map (λ (near : Near). near.agent) near.now ≡ neighbours_of (crowd_of scenario.now.agents bodies.now) who }
     requires room { length scenario.now.segments + 36 + length near.now ≤ scratch.old }
     ensures moves { StandsStill scenario.now.segments (crowd_of scenario.now.agents bodies.now) who result.vel result.mark result.relief
-        ⊎ Moves scenario.now.segments (crowd_of scenario.now.agents bodies.now) who result.vel result.mark result.relief }
+        ⊎ GivesWay scenario.now.segments (crowd_of scenario.now.agents bodies.now) who result.vel result.mark result.relief }
     ensures slow { IsVelocity result.vel }
     ensures room { scratch.new ≡ scratch.old }
 {

@@ -13,14 +13,14 @@ use Rattle.crowd_data.specs.declared.agent.Agent.{Agent}
 use Rattle.crowd_data.specs.declared.segment.Segment.{Segment}
 use Rattle.crowd_data.specs.declared.frame.Mark.{Mark}
 use Rattle.crowd_data.specs.declared.post.Post.{Post}
-use Rattle.crowd_data.specs.Advice.{IsAdvice, Moves, agent_at, nobody}
+use Rattle.crowd_data.specs.Advice.{IsAdvice, GivesWay, agent_at, nobody}
 use Rattle.crowd_data.specs.RingPlanes.{ring_planes}
 use Rattle.crowd_data.specs.Run.{IsNext, IsRun, Snapshot, after_posts, body_at, crowd_of, start_of, starting_bodies}
 use Rattle.crowd_data.specs.Safety.{OffThroughout}
 use Rattle.crowd_data.specs.SafeSteps.{ClearFrame, KeepsOffWalls, StaysOff, at_in, vel_in}
 use Rattle.crowd_data.specs.Scenario.{IsValid, Parts}
 use Rattle.crowd_data.specs.Walls.{IsClear, in_reach, wall_plane}
-use Rattle.separation_law.specs.Heeding.{Heeds}
+use Rattle.separation_law.specs.Respecting.{Respects}
 use Rattle.separation_law.proofs.Walls.{stays_off, stays_off_for}
 use Rattle.body_law.proofs.Lists.{back_of, before_filter, before_map}
 use Rattle.body_law.proofs.Crowds.{pos-after_posts}
@@ -38,7 +38,7 @@ module _ (segments : List Segment) (crowd : List Agent) (who : ℕ) (vel : V2) (
   me = agent_at crowd who
 
   -- the rounded point is in the drawn wall plane of each segment in reach, and so its rounding is in the wall plane
-  in_walls : Moves segments crowd who vel mark relief → All (λ segment. in_reach me.pos me segment ≡ true → IsIn (wall_plane me.pos me segment) (whole vel)) segments
+  in_walls : GivesWay segments crowd who vel mark relief → All (λ segment. in_reach me.pos me segment ≡ true → IsIn (wall_plane me.pos me segment) (whole vel)) segments
   in_walls moves k d l t =
       let p = moves.nearest.0 in
       let meets = moves.nearest.1.meets in
@@ -49,13 +49,13 @@ module _ (segments : List Segment) (crowd : List Agent) (who : ℕ) (vel : V2) (
       subst (λ v. IsIn (wall_plane me.pos me segment) (whole v)) (sym moves.nearest.2) (rounded_in_plane (wall_plane me.pos me segment) p meets.point drawn)
 
 by_reach : (at vel : V2) (agent : Agent) (segment : Segment) (reach : Bool) → in_reach at agent segment ≡ reach → IsWithinSpeed agent vel
-    → (in_reach at agent segment ≡ true → IsIn (wall_plane at agent segment) (whole vel)) → Heeds at agent segment vel
+    → (in_reach at agent segment ≡ true → IsIn (wall_plane at agent segment) (whole vel)) → Respects at agent segment vel
 by_reach at vel agent segment true e slow inside = inl (e, inside e)
 by_reach at vel agent segment false e slow inside = inr (inl (e, slow))
 
--- an advised velocity heeds each segment
+-- an advised velocity respects each segment
 pub advice_heeds : (segments : List Segment) (crowd : List Agent) (who : ℕ) (vel : V2) (mark : Mark) (relief : ℕ)
-    → IsAdvice segments crowd who vel mark relief → All (λ segment. Heeds (agent_at crowd who).pos (agent_at crowd who) segment vel) segments
+    → IsAdvice segments crowd who vel mark relief → All (λ segment. Respects (agent_at crowd who).pos (agent_at crowd who) segment vel) segments
 advice_heeds segments crowd who vel mark relief advice k d l = ⊎_elim
     (λ stands. inr (inr stands.still))
     (λ moves. by_reach (agent_at crowd who).pos vel (agent_at crowd who) (slice_index_or segments k d) _ refl (advice_within segments crowd who vel mark relief advice) (in_walls segments crowd who vel advice.0 relief moves k d l))
@@ -65,10 +65,10 @@ pub advice_off : (segments : List Segment) (crowd : List Agent) (who : ℕ) (vel
     → All (IsClear (agent_at crowd who).pos (agent_at crowd who).radius) segments → IsAdvice segments crowd who vel mark relief
     → All (IsKeptOff (agent_at crowd who).pos vel (agent_at crowd who)) segments
 advice_off segments crowd who vel mark relief some_radius some_horizon clear advice k d l =
-    let heeds = advice_heeds segments crowd who vel mark relief advice k d l in
+    let respects = advice_heeds segments crowd who vel mark relief advice k d l in
     let segment = slice_index_or segments k d in (
-      stays_off (agent_at crowd who).pos (agent_at crowd who) segment vel some_radius some_horizon (clear k d l) heeds,
-      stays_off_for (agent_at crowd who).pos (agent_at crowd who) segment vel some_radius some_horizon (clear k d l) heeds,
+      stays_off (agent_at crowd who).pos (agent_at crowd who) segment vel some_radius some_horizon (clear k d l) respects,
+      stays_off_for (agent_at crowd who).pos (agent_at crowd who) segment vel some_radius some_horizon (clear k d l) respects,
     )
 
 -- at the end of a way that stays off a segment the disc is clear of it

@@ -11,7 +11,7 @@ use Rattle.crowd_data.specs.declared.agent.Agent.{Agent}
 use Rattle.crowd_data.specs.declared.segment.Segment.{Segment}
 use Rattle.crowd_data.specs.declared.frame.Mark.{Mark}
 use Rattle.crowd_data.specs.declared.post.Post.{Post}
-use Rattle.crowd_data.specs.Advice.{IsAdvice, Moves, StandsStill, agent_at, hard_planes, planes_at, soft_planes}
+use Rattle.crowd_data.specs.Advice.{IsAdvice, GivesWay, StandsStill, agent_at, hard_planes, planes_at, soft_planes}
 use Rattle.crowd_data.specs.RingPlanes.{ring_planes, ring_points}
 use Rattle.crowd_data.specs.Run.{IsNext, IsRun, Snapshot, after_posts, body_at, crowd_of, standing, start_of}
 use Rattle.crowd_data.specs.SafeSteps.{EachStep, KeepsSpeed}
@@ -45,7 +45,7 @@ module _ (segments : List Segment) (crowd : List Agent) (who : ℕ) (vel : V2) (
   still_within : StandsStill segments crowd who vel mark relief → IsWithinSpeed (agent_at crowd who) vel
   still_within stands = rw (stands.still) (omega (arith, ints))
 
-  moved_within : Moves segments crowd who vel mark relief → IsWithinSpeed (agent_at crowd who) vel
+  moved_within : GivesWay segments crowd who vel mark relief → IsWithinSpeed (agent_at crowd who) vel
   moved_within moves =
       let p = moves.nearest.0 in
       let meets = moves.nearest.1.meets in

@@ -1,3 +1,9 @@
 pub mod ClearOfSegment
 pub mod WallCases
+pub mod PairNormals
+pub mod Crowds
+pub mod Posts
+pub mod Frames
+pub mod Sight
+pub mod Shares
 mod Examples

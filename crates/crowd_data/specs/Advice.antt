@@ -71,7 +71,7 @@ pub record StandsStill (segments : List Segment) (crowd : List Agent) (who : ℕ
 
 -- elsewhere it takes the least relief with which it can move, and rounds the admitted point that is
 -- nearest to its preferred velocity
-pub record Moves (segments : List Segment) (crowd : List Agent) (who : ℕ) (vel : V2) (mark : Mark) (relief : ℕ) : Type 0 where
+pub record GivesWay (segments : List Segment) (crowd : List Agent) (who : ℕ) (vel : V2) (mark : Mark) (relief : ℕ) : Type 0 where
   pub room : (p : Rational) × Meeting (hard_planes segments (agent_at crowd who)) p
   pub least : (d : ℕ) → d < relief → IsEmpty (planes_at segments crowd who d)
   pub nearest : (p : Rational) × Nearest (planes_at segments crowd who relief) (agent_at crowd who).pref p × (vel ≡ rounded_of p)
@@ -86,4 +86,4 @@ pub record IsMarked (crowd : List Agent) (who : ℕ) (plain mark : Mark) : Type 
 -- the advice of an agent: a velocity, a mark and a relief
 abbrev pub IsAdvice : List Segment → List Agent → ℕ → V2 → Mark → ℕ → Type 0
 IsAdvice segments crowd who vel mark relief =
-    (plain : Mark) × (StandsStill segments crowd who vel plain relief ⊎ Moves segments crowd who vel plain relief) × IsMarked crowd who plain mark
+    (plain : Mark) × (StandsStill segments crowd who vel plain relief ⊎ GivesWay segments crowd who vel plain relief) × IsMarked crowd who plain mark

@@ -9,3 +9,4 @@ pub mod Run
 pub mod Safety
 pub mod Headings
 pub mod SafeSteps
+pub mod Present

@@ -5,6 +5,7 @@ use Rattle.crowd_data.specs.declared.agent.Agent.{Agent}
 use Rattle.crowd_data.specs.declared.segment.Segment.{Segment}
 use Rattle.crowd_data.specs.declared.post.ScriptPost.{ScriptPost}
 use Rattle.crowd_data.specs.declared.post.Goal.{Goal}
+use Rattle.crowd_data.specs.declared.post.Post.{Post}
 
 -- each coordinate is at most so large in size
 abbrev pub IsWithin : V2 → ℕ → Type 0
@@ -46,6 +47,11 @@ pub record IsSegment (segment : Segment) : Type 0 where
 pub record IsScriptPost (steps agents : ℕ) (post : ScriptPost) : Type 0 where
   pub some_frame : 1 ≤ post.frame
   pub frame : post.frame ≤ steps
+  pub agent : post.agent < agents
+  pub vel : IsVelocity post.vel
+
+-- a post for one of so many agents
+pub record IsPost (agents : ℕ) (post : Post) : Type 0 where
   pub agent : post.agent < agents
   pub vel : IsVelocity post.vel
 

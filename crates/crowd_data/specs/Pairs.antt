@@ -13,24 +13,24 @@ use Rattle.crowd_data.specs.declared.pair.Region.{Region}
 use Rattle.crowd_data.specs.declared.pair.Region.TheVariants.{Arc, Left, Right, Overlap}
 
 -- where the high disc is, seen from the low one
-abbrev pub offset : Disc → Disc → V2
-offset low high = minus high.pos low.pos
+abbrev pub relative_position : Disc → Disc → V2
+relative_position low high = minus high.pos low.pos
 
 -- how the low disc moves, seen from the high one
 abbrev pub relative_velocity : Disc → Disc → V2
 relative_velocity low high = minus low.vel high.vel
 
 -- the sum of the radii
-abbrev pub joint_radius : Disc → Disc → ℤ
-joint_radius low high = pos (low.radius + high.radius)
+abbrev pub combined_radius : Disc → Disc → ℤ
+combined_radius low high = pos (low.radius + high.radius)
 
 -- from the centre of the cut-off disc to the relative velocity, times the horizon
 abbrev pub from_cutoff : Disc → Disc → ℕ → V2
-from_cutoff low high tau = minus (times (pos tau) (relative_velocity low high)) (offset low high)
+from_cutoff low high tau = minus (times (pos tau) (relative_velocity low high)) (relative_position low high)
 
 -- the limits within which the half-planes of a pair are made
 pub record IsPair (low high : Disc) (tau : ℕ) : Type 0 where
-  pub near : square (offset low high) <ℤ pos (2 ^ 32)
+  pub near : square (relative_position low high) <ℤ pos (2 ^ 32)
   pub low_vel : IsVelocity low.vel
   pub high_vel : IsVelocity high.vel
   pub some_low_radius : 1 ≤ low.radius
@@ -42,14 +42,14 @@ pub record IsPair (low high : Disc) (tau : ℕ) : Type 0 where
 
 -- the discs overlap; touching discs don't
 abbrev pub is_overlap : Disc → Disc → Bool
-is_overlap low high = int_lt (square (offset low high)) (joint_radius low high *ℤ joint_radius low high)
+is_overlap low high = int_lt (square (relative_position low high)) (combined_radius low high *ℤ combined_radius low high)
 
 -- the relative velocity is nearest to the arc of the cut-off disc, not to a leg
 abbrev pub is_arc : Disc → Disc → ℕ → Bool
 is_arc low high tau =
     let W = from_cutoff low high tau in
-    let p = offset low high in
-    let R = joint_radius low high in
+    let p = relative_position low high in
+    let R = combined_radius low high in
     int_lt (dot W p) (pos 0) && int_lt (R *ℤ R *ℤ square W) (dot W p *ℤ dot W p)
 
 -- which part of the border of the velocity obstacle counts; the first that holds decides
@@ -57,26 +57,26 @@ abbrev pub region_of : Disc → Disc → ℕ → Region
 region_of low high tau =
     if is_overlap low high then Overlap
     else if is_arc low high tau then Arc
-    else if int_lt (pos 0) (cross (offset low high) (from_cutoff low high tau)) then Left
+    else if int_lt (pos 0) (cross (relative_position low high) (from_cutoff low high tau)) then Left
     else Right
 
 -- the length of a leg, from the origin to where it touches the disc, rounded down
 abbrev pub leg_length : Disc → Disc → ℤ
-leg_length low high = pos (floor_root (unsigned_abs (square (offset low high) -ℤ joint_radius low high *ℤ joint_radius low high)))
+leg_length low high = pos (floor_root (unsigned_abs (square (relative_position low high) -ℤ combined_radius low high *ℤ combined_radius low high)))
 
 -- the way out of an overlap within one step, or (1, 0) where there is none
 abbrev pub overlap_normal : Disc → Disc → V2
 overlap_normal low high =
-    let u = minus (relative_velocity low high) (offset low high) in
+    let u = minus (relative_velocity low high) (relative_position low high) in
     if int_eq (square u) (pos 0) then record { x = pos 1; y = pos 0 } else u
 
 -- l*perp(p) - R*p for the left leg, -l*perp(p) - R*p for the right one
 abbrev pub leg_normal : Disc → Disc → ℤ → V2
-leg_normal low high l = minus (times l (perp (offset low high))) (times (joint_radius low high) (offset low high))
+leg_normal low high l = minus (times l (perp (relative_position low high))) (times (combined_radius low high) (relative_position low high))
 
 -- n . p + R * L(n)
 abbrev pub held_off : Disc → Disc → V2 → ℤ
-held_off low high n = dot n (offset low high) +ℤ joint_radius low high *ℤ pos (whole_length n)
+held_off low high n = dot n (relative_position low high) +ℤ combined_radius low high *ℤ pos (whole_length n)
 
 -- the half-plane of relative velocities that the region asks for
 abbrev pub relative_in : Disc → Disc → ℕ → Region → Plane

@@ -8,6 +8,7 @@
 
 mod agent;
 mod clearance;
+mod copies;
 mod frame;
 mod pair;
 mod post;
@@ -16,6 +17,7 @@ mod segment;
 
 pub use agent::Agent;
 pub use clearance::clear;
+pub use copies::{copy_frame, copy_posts};
 pub use frame::{Body, Frame, Mark, Moves, first_frame};
 pub use pair::{Disc, Place, Region};
 pub use post::{Goal, Post, SCRIPT, ScriptPost};

@@ -69,7 +69,7 @@ abs-sum a b m n h k = omega (arith, ints)
 abs-neg : (a : ℤ) (m : ℕ) → unsigned_abs a ≤ m → unsigned_abs (neg_ℤ a) ≤ m
 abs-neg a m h = omega (arith, ints)
 
-abs-product : (a b : ℤ) (m n : ℕ) → unsigned_abs a ≤ m → unsigned_abs b ≤ n → unsigned_abs (a *ℤ b) ≤ m * n
+pub abs-product : (a b : ℤ) (m n : ℕ) → unsigned_abs a ≤ m → unsigned_abs b ≤ n → unsigned_abs (a *ℤ b) ≤ m * n
 abs-product a b m n h k = rw (unsigned_abs-mul a b) (mul-le-mul h k)
 
 module _ (e : List ℤ) (bs : List ℕ) (w : Within e bs) where

@@ -15,6 +15,13 @@ lt_true a b t = grind (arith, ints)
 pub lt_false : (a b : ℤ) → int_lt a b ≡ false → b ≤ℤ a
 lt_false a b t = grind (arith, ints)
 
+-- and what a comparison comes out as
+pub lt_is_false : (a b : ℤ) → b ≤ℤ a → int_lt a b ≡ false
+lt_is_false a b h = grind (arith, ints)
+
+pub eq_false : (a b : ℤ) → int_eq a b ≡ false → a ≡ b → ⊥
+eq_false a b e f = grind (arith, ints)
+
 pub eq_true : (a b : ℤ) → int_eq a b ≡ true → a ≡ b
 eq_true a b t = grind (arith, ints)
 

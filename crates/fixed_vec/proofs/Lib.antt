@@ -4,3 +4,4 @@ pub mod Sizes
 pub mod Newton
 pub mod NearestWhole
 mod Examples
+pub mod Squares

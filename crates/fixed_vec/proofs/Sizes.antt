@@ -3,25 +3,19 @@ use Rattle.std.proofs.Common.{◌≡◌, ℕ, ◌*◌, ◌^◌, ◌<◌, ◌≤�
 use Rattle.std.proofs.lemmas.Int.{ints}
 use Rattle.std.proofs.lemmas.Bool.{cases_lt}
 use Rattle.exact_algebra.proofs.Machine.{Within}
+use Rattle.exact_algebra.proofs.Sizes.{root_lt, square_abs}
 use Rattle.fixed_vec.specs.declared.vector.V2.{V2}
 use Rattle.fixed_vec.specs.Vector.{dot}
 use Rattle.fixed_vec.specs.HalfPlane.{Plane, FitsPlane}
 use Rattle.fixed_vec.specs.Point.{Rational, FitsPoint}
-
-square_abs : (z : ℤ) → z *ℤ z ≡ pos (unsigned_abs z * unsigned_abs z)
-square_abs (pos n) = omega (arith, ints)
-square_abs (negsuc n) = omega (arith, ints)
-
-root_below : (a b : ℕ) → a * a < b * b → a < b
-root_below a b h = ⊎_elim (λ k. k) (λ k. absurd (omega (arith, mul-le-mul k k))) (cases_lt a b)
 
 pub normal_small : (n : V2) → dot n n <ℤ pos (2 ^ 64) → (unsigned_abs n.x ≤ 2 ^ 32) × (unsigned_abs n.y ≤ 2 ^ 32)
 normal_small n h =
     let e = square_abs n.x in let f = square_abs n.y in
     let p : unsigned_abs n.x * unsigned_abs n.x < (2 ^ 32) * (2 ^ 32) = omega (arith, ints) in
     let q : unsigned_abs n.y * unsigned_abs n.y < (2 ^ 32) * (2 ^ 32) = omega (arith, ints) in
-    let r : unsigned_abs n.x < 2 ^ 32 = root_below (unsigned_abs n.x) (2 ^ 32) p in
-    let s : unsigned_abs n.y < 2 ^ 32 = root_below (unsigned_abs n.y) (2 ^ 32) q in
+    let r : unsigned_abs n.x < 2 ^ 32 = root_lt (unsigned_abs n.x) (2 ^ 32) p in
+    let s : unsigned_abs n.y < 2 ^ 32 = root_lt (unsigned_abs n.y) (2 ^ 32) q in
     (omega arith, omega arith)
 
 abbrev pub inputs : Plane → Rational → List ℤ

@@ -10,11 +10,13 @@ use Rattle.exact_algebra.proofs.Tests.{both_of, lt_false, lt_true}
 use Rattle.fixed_vec.specs.declared.vector.V2.{V2}
 use Rattle.fixed_vec.specs.Vector.{cross, dot, minus, opposite, perp, square, times}
 use Rattle.fixed_vec.specs.HalfPlane.{Plane}
+use Rattle.fixed_vec.proofs.Squares.{square-opposite}
 use Rattle.crowd_data.specs.declared.agent.Agent.{Agent}
 use Rattle.crowd_data.specs.declared.pair.Disc.{Disc}
 use Rattle.crowd_data.specs.declared.pair.Region.TheVariants.{Arc, Left, Right, Overlap}
 use Rattle.crowd_data.specs.Advice.{agent_at, disc_of, neighbours_of, share_against, soft_planes}
-use Rattle.crowd_data.specs.Pairs.{from_cutoff, higher_share, is_arc, is_overlap, joint_radius, leg_length, leg_normal, lower_share, offset, overlap_normal, relative_in, relative_plane, relative_velocity}
+use Rattle.crowd_data.specs.Pairs.{from_cutoff, higher_share, is_arc, is_overlap, combined_radius, leg_length, leg_normal, lower_share, relative_position, overlap_normal, relative_in, relative_plane, relative_velocity}
+use Rattle.crowd_data.proofs.PairNormals.{overlap_normal-nonzero}
 use Rattle.separation_law.proofs.Borders.{normal_nonzero}
 
 -- its normal isn't zero
@@ -22,16 +24,6 @@ abbrev pub IsLong : Plane → Type 0
 IsLong plane = pos 0 <ℤ square plane.n
 
 -- ---- the relative plane, region by region
-
-not_equal : (a b : ℤ) → int_eq a b ≡ false → a ≡ b → ⊥
-not_equal a b e f = grind (arith, ints)
-
-overlap_nonzero : (low high : Disc) → pos 0 <ℤ square (overlap_normal low high)
-overlap_nonzero low high = by (minus (relative_velocity low high) (offset low high)) (int_eq (square (minus (relative_velocity low high) (offset low high))) (pos 0)) refl
-  where
-    by : (u : V2) (b : Bool) → int_eq (square u) (pos 0) ≡ b → pos 0 <ℤ square (cond b (record { x = pos 1; y = pos 0 }) u)
-    by u true e = omega (arith, ints)
-    by u false e = let s = sum_nonneg _ _ (square_nonneg u.x) (square_nonneg u.y) in let f = not_equal (square u) (pos 0) e in omega (arith, ints)
 
 -- a leg's normal turns against where the other disc is
 leg_nonzero : (p : V2) (R l : ℤ) → pos 1 ≤ℤ R → (R *ℤ R) ≤ℤ square p → pos 0 <ℤ square (minus (times l (perp p)) (times R p))
@@ -46,25 +38,21 @@ leg_nonzero p R l some far =
 
 module _ (low high : Disc) (tau : ℕ) (some : 1 ≤ low.radius + high.radius) where
   one_leg : (l : ℤ) → is_overlap low high ≡ false → pos 0 <ℤ square (leg_normal low high l)
-  one_leg l e = leg_nonzero (offset low high) (joint_radius low high) l (omega (arith, ints)) (lt_false _ _ e)
+  one_leg l e = leg_nonzero (relative_position low high) (combined_radius low high) l (omega (arith, ints)) (lt_false _ _ e)
 
   relative_nonzero : IsLong (relative_plane low high tau)
-  relative_nonzero = by (is_overlap low high) refl (is_arc low high tau) refl (int_lt (pos 0) (cross (offset low high) (from_cutoff low high tau)))
+  relative_nonzero = by (is_overlap low high) refl (is_arc low high tau) refl (int_lt (pos 0) (cross (relative_position low high) (from_cutoff low high tau)))
     where
       by : (a : Bool) → is_overlap low high ≡ a → (b : Bool) → is_arc low high tau ≡ b → (c : Bool) → IsLong (relative_in low high tau (cond a Overlap (cond b Arc (cond c Left Right))))
-      by true e b f c = overlap_nonzero low high
-      by false e true f c = normal_nonzero (from_cutoff low high tau) (offset low high) (lt_true _ _ (both_of _ _ f).0)
+      by true e b f c = overlap_normal-nonzero low high
+      by false e true f c = normal_nonzero (from_cutoff low high tau) (relative_position low high) (lt_true _ _ (both_of _ _ f).0)
       by false e false f true = one_leg (leg_length low high) e
       by false e false f false = one_leg (neg_ℤ (leg_length low high)) e
 
 -- ---- the shares
 
--- turned round, a normal is as long as before
-turned_round : (n : V2) → square (opposite n) ≡ square n
-turned_round n = equal (n.x ∷ n.y ∷ []) (search quotes depth 40) tt
-
 higher_nonzero : (low high : Disc) (tau : ℕ) → 1 ≤ low.radius + high.radius → IsLong (higher_share low high tau)
-higher_nonzero low high tau some = subst (λ z. pos 0 <ℤ z) (sym (turned_round (relative_plane low high tau).n)) (relative_nonzero low high tau some)
+higher_nonzero low high tau some = subst (λ z. pos 0 <ℤ z) (sym (square-opposite (relative_plane low high tau).n)) (relative_nonzero low high tau some)
 
 module _ (crowd : List Agent) (who : ℕ) (some : 1 ≤ (agent_at crowd who).radius) where
   share_nonzero : (other : ℕ) → IsLong (share_against crowd who other)

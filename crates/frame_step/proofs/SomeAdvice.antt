@@ -9,7 +9,7 @@ use Rattle.crowd_data.specs.declared.agent.Agent.{Agent}
 use Rattle.crowd_data.specs.declared.segment.Segment.{Segment}
 use Rattle.crowd_data.specs.declared.frame.Mark.{Mark}
 use Rattle.crowd_data.specs.declared.frame.Mark.TheVariants.{Fallback, Feasible, Stopped}
-use Rattle.crowd_data.specs.Advice.{IsAdvice, Moves, StandsStill, agent_at, hard_planes, soft_planes}
+use Rattle.crowd_data.specs.Advice.{IsAdvice, GivesWay, StandsStill, agent_at, hard_planes, soft_planes}
 use Rattle.planar_program.proofs.Existence.{nearest_or_none}
 use Rattle.frame_step.proofs.SomeMark.{some_mark}
 use Rattle.frame_step.proofs.SomeRelief.{least_relief}
@@ -26,7 +26,7 @@ module _ (segments : List Segment) (crowd : List Agent) (who : ℕ) where
   abbrev pub HasAdvice : Type 0
   HasAdvice = (vel : V2) × (mark : Mark) × (relief : ℕ) × IsAdvice segments crowd who vel mark relief
 
-  advised : (vel : V2) (plain : Mark) (relief : ℕ) → StandsStill segments crowd who vel plain relief ⊎ Moves segments crowd who vel plain relief → HasAdvice
+  advised : (vel : V2) (plain : Mark) (relief : ℕ) → StandsStill segments crowd who vel plain relief ⊎ GivesWay segments crowd who vel plain relief → HasAdvice
   advised vel plain relief way = let (mark, marked) = some_mark crowd who plain in (vel, mark, relief, (plain, way, marked))
 
   stands : IsEmpty (hard_planes segments (agent_at crowd who)) → HasAdvice

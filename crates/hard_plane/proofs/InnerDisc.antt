@@ -6,13 +6,13 @@ use Rattle.exact_algebra.proofs.Ring.{quotes, equal, shown}
 use Rattle.exact_algebra.proofs.Order.{square_nonneg, product_nonneg, sum_nonneg, gap_nonneg, cancel}
 use Rattle.exact_algebra.proofs.Rounding.{ceil_lt}
 use Rattle.exact_algebra.proofs.Tests.{le_true, lt_true, both_of}
+use Rattle.exact_algebra.proofs.Sizes.{whole_root_le}
 use Rattle.fixed_vec.specs.declared.vector.V2.{V2}
 use Rattle.fixed_vec.specs.Vector.{cross, dot, minus, perp, square}
 use Rattle.fixed_vec.specs.HalfPlane.{Plane}
 use Rattle.fixed_vec.specs.Point.{Rational, IsIn}
 use Rattle.crowd_data.specs.RingPlanes.{edge_plane, edge_planes, ring_planes, ring_planes_of, ring_points}
 use Rattle.hard_plane.specs.Ring.{turns_left, all_at, is_round, inner_reach, IsInner}
-use Rattle.hard_plane.proofs.Sizes.{root_le}
 
 -- ---- the algebra: (g, h) is the edge's normal, d = cross of its points, r the radius, v = (x, y)/q the point
 
@@ -36,7 +36,7 @@ reaches g h x y q r k s i w d hr hs hw hd hq slope start hn inside =
     (sum_nonneg _ _ (product_nonneg _ _ (product_nonneg _ _ (square_nonneg w) (sum_nonneg _ _ (square_nonneg x) (square_nonneg y))) (gap_nonneg _ _ slope))
     (product_nonneg _ _ (product_nonneg _ _ (square_nonneg w) (square_nonneg d)) (gap_nonneg _ _ inside))))
     (search quotes depth 40 fits 40000) tt in
-    let roots = root_le (w *ℤ (r *ℤ (s *ℤ t))) (w *ℤ (d *ℤ (n *ℤ q))) (product_nonneg _ _ w0 (product_nonneg _ _ d0 (product_nonneg _ _ hn q0))) squares in
+    let roots = whole_root_le (w *ℤ (r *ℤ (s *ℤ t))) (w *ℤ (d *ℤ (n *ℤ q))) (product_nonneg _ _ w0 (product_nonneg _ _ d0 (product_nonneg _ _ hn q0))) squares in
     let most : (r *ℤ (s *ℤ t)) ≤ℤ (d *ℤ (n *ℤ q)) = cancel (r *ℤ (s *ℤ t)) (d *ℤ (n *ℤ q)) w hw (shown (g ∷ h ∷ x ∷ y ∷ q ∷ r ∷ k ∷ s ∷ i ∷ w ∷ d ∷ []) (gap_nonneg _ _ roots) (search quotes depth 40 fits 20000) tt) in
     cancel ((r -ℤ k *ℤ d) *ℤ q) (r *ℤ (g *ℤ x +ℤ h *ℤ y)) s hs
     (shown (g ∷ h ∷ x ∷ y ∷ q ∷ r ∷ k ∷ s ∷ i ∷ w ∷ d ∷ []) (sum_nonneg _ _ (gap_nonneg _ _ most) (product_nonneg _ q (gap_nonneg _ _ start) q0)) (search quotes depth 40 fits 20000) tt)

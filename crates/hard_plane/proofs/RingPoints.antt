@@ -7,12 +7,12 @@ use Rattle.std.proofs.lemmas.Option.{get_or_from_slice_get, slice_get_within}
 use Rattle.exact_algebra.proofs.Ring.{quotes, equal}
 use Rattle.exact_algebra.proofs.Order.{product_nonneg}
 use Rattle.exact_algebra.proofs.Tests.{lt_true, eq_true, both_of}
+use Rattle.exact_algebra.proofs.Sizes.{square_abs, root_lt}
 use Rattle.fixed_vec.specs.declared.vector.V2.{V2}
 use Rattle.fixed_vec.specs.Vector.{cross, square, IsBelow}
 use Rattle.fixed_vec.specs.HalfPlane.{Plane}
 use Rattle.crowd_data.specs.RingPlanes.{edge_plane, edge_planes, ring_planes, ring_planes_of, ring_points}
 use Rattle.hard_plane.specs.Ring.{is_at, all_at, turns_left, is_round, is_ring, IsNeighbour}
-use Rattle.hard_plane.proofs.Sizes.{square_abs, root_below}
 
 pub ring_bounds : (r : ℤ) (ps : List V2) → is_ring r ps ≡ true → (pos 0 <ℤ r) × (r <ℤ pos 1024) × (is_round r ps ≡ true)
 ring_bounds r ps t =
@@ -27,7 +27,7 @@ coordinates_small p r e h k =
     let q : (pos 1023 -ℤ r) *ℤ (pos 1023 +ℤ r) ≡ pos 1023 *ℤ pos 1023 -ℤ r *ℤ r = equal (r ∷ pos 1023 ∷ []) (search quotes depth 30) tt in
     let x = square_abs p.x in
     let y = square_abs p.y in
-    (root_below (unsigned_abs p.x) 1024 (omega (arith, ints)), root_below (unsigned_abs p.y) 1024 (omega (arith, ints)))
+    (root_lt (unsigned_abs p.x) 1024 (omega (arith, ints)), root_lt (unsigned_abs p.y) 1024 (omega (arith, ints)))
 
 point_at : (r : ℤ) (ps : List V2) (k : ℕ) (d : V2) → all_at r ps ≡ true → k < length ps → square (slice_index_or ps k d) ≡ r *ℤ r
 point_at r [] k d t h = absurd (omega arith)

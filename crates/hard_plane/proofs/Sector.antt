@@ -5,7 +5,7 @@ use Rattle.exact_algebra.specs.Numbers.{ceil}
 use Rattle.exact_algebra.proofs.Ring.{quotes, equal, shown}
 use Rattle.exact_algebra.proofs.Order.{square_nonneg, product_nonneg, sum_nonneg, gap_nonneg, cancel}
 use Rattle.exact_algebra.proofs.Rounding.{ceil_ge}
-use Rattle.hard_plane.proofs.Sizes.{product_positive}
+use Rattle.exact_algebra.proofs.Sizes.{product_positive}
 
 -- what an edge's half-plane says: r (cross(m, v) - cross(m', v)) is at most k q cross(m, m')
 pub edge_holds : (a b c d x y q r k : ℤ) → pos 0 <ℤ r → pos 0 <ℤ q

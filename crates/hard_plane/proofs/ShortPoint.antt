@@ -5,9 +5,9 @@ use Rattle.exact_algebra.specs.Numbers.{floor}
 use Rattle.exact_algebra.proofs.Ring.{quotes, equal, shown}
 use Rattle.exact_algebra.proofs.Order.{square_nonneg, product_nonneg, sum_nonneg, gap_nonneg, cancel}
 use Rattle.exact_algebra.proofs.Rounding.{floor_le, floor_gt}
+use Rattle.exact_algebra.proofs.Sizes.{whole_root_le, product_positive}
 use Rattle.fixed_vec.specs.Vector.{square}
 use Rattle.fixed_vec.specs.Point.{Rational, rounded_of}
-use Rattle.hard_plane.proofs.Sizes.{root_le, product_positive}
 
 -- the point is no longer than k
 abbrev pub IsShort : ℕ → Rational → Type 0
@@ -100,7 +100,7 @@ short_coordinates v k hk hq short = (one v.x v.y short, one v.y v.x (omega (arit
     one : (x y : ℤ) → (x *ℤ x +ℤ y *ℤ y) ≤ℤ (pos k *ℤ pos k *ℤ (v.q *ℤ v.q)) → pos (unsigned_abs x) ≤ℤ (v.q *ℤ pos (2 ^ 32))
     one x y h =
         let b = product_nonneg (pos k) v.q (omega (arith, ints)) q0 in
-        near x (root_le x (pos k *ℤ v.q) b (below (pos k) h)) (root_le (neg_ℤ x) (pos k *ℤ v.q) b (mirrored (pos k) h))
+        near x (whole_root_le x (pos k *ℤ v.q) b (below (pos k) h)) (whole_root_le (neg_ℤ x) (pos k *ℤ v.q) b (mirrored (pos k) h))
       where
         below : (k : ℤ) → (x *ℤ x +ℤ y *ℤ y) ≤ℤ (k *ℤ k *ℤ (v.q *ℤ v.q)) → (x *ℤ x) ≤ℤ ((k *ℤ v.q) *ℤ (k *ℤ v.q))
         below k h = shown (x ∷ y ∷ k ∷ v.q ∷ []) (sum_nonneg _ _ (gap_nonneg _ _ h) (square_nonneg y)) (search quotes depth 40 fits 20000) tt

@@ -5,7 +5,7 @@ use Rattle.std.proofs.lemmas.Int.{ints, clamps, unsigned_abs-mul}
 use Rattle.std.proofs.lemmas.Bool.{cases_lt}
 use Rattle.exact_algebra.specs.Numbers.{ceil, ceil_root}
 use Rattle.exact_algebra.proofs.Ring.{quotes, equal}
-use Rattle.exact_algebra.proofs.Machine.{Within, bounded, reads}
+use Rattle.exact_algebra.proofs.Machine.{Within, bounded, reads, abs-product}
 use Rattle.exact_algebra.proofs.Rounding.{ceil_root_first}
 use Rattle.exact_algebra.proofs.Tests.{le_true, both_of}
 use Rattle.fixed_vec.specs.declared.vector.V2.{V2}
@@ -22,9 +22,6 @@ use Rattle.hard_plane.proofs.Sizes.{ceil_within}
 root_most : (m b : ℕ) → m ≤ b * b → ceil_root m ≤ b
 root_most m b h = ⊎_elim (λ l. absurd (omega (arith, ceil_root_first m b l))) (λ k. k) (cases_lt b (ceil_root m))
 
-product_size : (a b : ℤ) (m n : ℕ) → unsigned_abs a ≤ m → unsigned_abs b ≤ n → unsigned_abs (a *ℤ b) ≤ m * n
-product_size a b m n h k = rw (unsigned_abs-mul a b) (mul-le-mul h k)
-
 -- a half-plane fits, drawn in or not
 abbrev FitsTwice : V2 → V2 → V2 → Agent → Type 0
 FitsTwice n q at agent = FitsPlane (plane_from n q at agent) × FitsPlane (drawn_of (plane_from n q at agent))
@@ -36,8 +33,8 @@ plane_from_fits n q at agent build some small ex ey =
     let within : Within (n.x ∷ n.y ∷ []) (2 ^ 27 ∷ 2 ^ 27 ∷ []) = (omega (arith, small.0), (omega (arith, small.1), tt)) in
     let nn : unsigned_abs (square n) < 2 ^ 56 = bounded (n.x ∷ n.y ∷ []) (2 ^ 27 ∷ 2 ^ 27 ∷ []) (2 ^ 56) (square n) within (search reads depth 40 fits 20000) tt in
     let l : whole_length n ≤ 2 ^ 28 = root_most (unsigned_abs (square n)) (2 ^ 28) (omega (arith, nn)) in
-    let x : unsigned_abs (n.x *ℤ (q.x -ℤ at.x)) ≤ 2 ^ 27 * (agent.wall_horizon * 2 ^ 24) = product_size n.x (q.x -ℤ at.x) (2 ^ 27) (agent.wall_horizon * 2 ^ 24) (omega (arith, small.0)) ex in
-    let y : unsigned_abs (n.y *ℤ (q.y -ℤ at.y)) ≤ 2 ^ 27 * (agent.wall_horizon * 2 ^ 24) = product_size n.y (q.y -ℤ at.y) (2 ^ 27) (agent.wall_horizon * 2 ^ 24) (omega (arith, small.1)) ey in
+    let x : unsigned_abs (n.x *ℤ (q.x -ℤ at.x)) ≤ 2 ^ 27 * (agent.wall_horizon * 2 ^ 24) = abs-product n.x (q.x -ℤ at.x) (2 ^ 27) (agent.wall_horizon * 2 ^ 24) (omega (arith, small.0)) ex in
+    let y : unsigned_abs (n.y *ℤ (q.y -ℤ at.y)) ≤ 2 ^ 27 * (agent.wall_horizon * 2 ^ 24) = abs-product n.y (q.y -ℤ at.y) (2 ^ 27) (agent.wall_horizon * 2 ^ 24) (omega (arith, small.1)) ey in
     let rr : agent.radius ≤ 2 ^ 15 = omega (arith, build.radius) in
     let z : agent.radius * whole_length n ≤ 2 ^ 15 * 2 ^ 28 = mul-le-mul rr l in
     let c = sum (n.x *ℤ (q.x -ℤ at.x)) (n.y *ℤ (q.y -ℤ at.y)) (agent.radius * whole_length n) agent.wall_horizon build.some_wall_horizon x y z in

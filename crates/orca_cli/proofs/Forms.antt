@@ -13,7 +13,7 @@ use Rattle.scenario_read.specs.declared.cause.Cause.{Cause}
 use Rattle.scenario_read.specs.declared.cause.ScenarioFault.TheVariants.{At}
 use Rattle.scenario_read.specs.Reading.{AllClear, IsAccepted, Tells}
 use Rattle.scenario_read.specs.Records.{Record, records_of}
-use Rattle.orca_cli.specs.Output.{IsRefused, IsRefusedBy, IsUnbuilt, StandsFor}
+use Rattle.orca_cli.specs.Output.{IsRefused, IsRefusedBy, IsUnbuilt, IsScenarioOf}
 use Rattle.orca_cli.specs.Status.{IsTaken}
 
 at_place : {A : Type 0} (P : A → Type 0) (xs : List A) (k : ℕ) (x : A) → All P xs → slice_get xs k ≡ Some x → P x
@@ -31,7 +31,7 @@ refused_or_unbuilt : (bytes : List ℕ) (index : ℕ) (cause : Cause) → IsRefu
 refused_or_unbuilt bytes index cause (built, h) posted = cc (built, posted)
 
 -- the bytes of a scenario
-pub is_taken : (bytes : List ℕ) (scenario : Parts) → StandsFor bytes scenario → IsTaken bytes
+pub is_taken : (bytes : List ℕ) (scenario : Parts) → IsScenarioOf bytes scenario → IsTaken bytes
 is_taken bytes scenario ok = ((λ (index, cause, told). accepted_or_refused (records_of bytes) scenario index cause ok told), (λ posted. cc (ok.built, posted)))
 
 -- all the bytes were read

@@ -9,7 +9,7 @@ use Rattle.crowd_data.specs.Scenario.{Parts}
 use Rattle.crowd_data.specs.declared.post.Post.{Post}
 use Rattle.crowd_data.specs.Run.{IsRun, Snapshot, scripts_of}
 use Rattle.frame_text.specs.Transcript.{IsTranscript}
-use Rattle.orca_cli.specs.Output.{EveryRunIsSafe, IsOutput, IsSafeRun, StandsFor}
+use Rattle.orca_cli.specs.Output.{EveryRunIsSafe, IsOutput, IsSafeRun, IsScenarioOf}
 use Rattle.orca_cli.specs.Status.{IsTaken}
 use Rattle.orca_cli.proofs.Forms.{is_taken}
 
@@ -26,14 +26,14 @@ rose_err before now (Ok v) failed h = cc failed
 rose_err before now (Err e) failed h = h.failed
 
 -- the law of one scenario is that of the bytes that stand for it
-safe_bytes : (bytes : List ℕ) (scenario : Parts) → StandsFor bytes scenario
+safe_bytes : (bytes : List ℕ) (scenario : Parts) → IsScenarioOf bytes scenario
     → ((lists : List (List Post)) → (frames : List Snapshot) → IsRun scenario lists frames → IsSafeRun scenario frames) → EveryRunIsSafe bytes
 safe_bytes bytes scenario e law other f lists frames run =
     let same : scenario ≡ other = cc (e.read, f.read) in
     subst (λ (s : Parts). IsRun s lists frames → IsSafeRun s frames) same (law lists frames) run
 
 -- all the bytes were read, they stand for a scenario, and this is the transcript of its run
-module _ (left after : Option (List ℕ)) (bytes : List ℕ) (limit : ℕ) (all : Consumes left after bytes) (end : IsAtEnd after) (short : length bytes ≤ limit) (scenario : Parts) (stands : StandsFor bytes scenario)
+module _ (left after : Option (List ℕ)) (bytes : List ℕ) (limit : ℕ) (all : Consumes left after bytes) (end : IsAtEnd after) (short : length bytes ≤ limit) (scenario : Parts) (stands : IsScenarioOf bytes scenario)
     (law : (lists : List (List Post)) → (frames : List Snapshot) → IsRun scenario lists frames → IsSafeRun scenario frames)
     {T E : Type 0} (a b : Option (List ℕ)) (r : Result T E) (held : Parts) (same : held ≡ scenario) (wrote : (text : List ℕ) × IsTranscript held (scripts_of held) text × Wrote a b r text) where
   is_output : IsOutput bytes wrote.0

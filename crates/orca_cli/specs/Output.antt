@@ -11,8 +11,8 @@ use Rattle.scenario_read.specs.Reading.{IsAccepted, Tells, has_unbuilt}
 use Rattle.scenario_read.specs.Records.{records_of}
 
 -- the records of the bytes are accepted as this scenario: no cause holds
-abbrev pub StandsFor : List ℕ → Parts → Type 0
-StandsFor bytes scenario = IsAccepted (records_of bytes) scenario
+abbrev pub IsScenarioOf : List ℕ → Parts → Type 0
+IsScenarioOf bytes scenario = IsAccepted (records_of bytes) scenario
 
 -- the first cause why the bytes stand for no scenario, with the number of its record
 abbrev pub IsRefusedBy : List ℕ → ℕ → Cause → Type 0
@@ -28,7 +28,7 @@ IsUnbuilt bytes = has_unbuilt (records_of bytes) ≡ true
 
 -- a text is the defined output for bytes: the transcript of their scenario's run with its scripted posts
 abbrev pub IsOutput : List ℕ → List ℕ → Type 0
-IsOutput bytes text = (scenario : Parts) × StandsFor bytes scenario × IsTranscript scenario (scripts_of scenario) text
+IsOutput bytes text = (scenario : Parts) × IsScenarioOf bytes scenario × IsTranscript scenario (scripts_of scenario) text
 
 -- a run in which no disc cuts a segment, no velocity is longer than its agent's speed, and pairs keep apart
 abbrev pub IsSafeRun : Parts → List Snapshot → Type 0
@@ -37,4 +37,4 @@ IsSafeRun scenario frames = KeepsOffWalls scenario frames × EachStep (PairsKeep
 -- every run of the scenario that the bytes stand for is safe, whatever is posted
 abbrev pub EveryRunIsSafe : List ℕ → Type 0
 EveryRunIsSafe bytes =
-    (scenario : Parts) → StandsFor bytes scenario → (lists : List (List Post)) → (frames : List Snapshot) → IsRun scenario lists frames → IsSafeRun scenario frames
+    (scenario : Parts) → IsScenarioOf bytes scenario → (lists : List (List Post)) → (frames : List Snapshot) → IsRun scenario lists frames → IsSafeRun scenario frames

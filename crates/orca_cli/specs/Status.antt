@@ -25,26 +25,26 @@ code_of TooLong = 6
 code_of NotYet = 8
 
 -- what a source and a sink tell before a call, or behind it: the bytes left and held, and the faults
-pub record Ends : Type 0 where
+pub record Channels : Type 0 where
   pub left : Option (List ℕ)
   pub reads : ℕ
   pub held : Option (List ℕ)
   pub writes : ℕ
 
 -- the source is as it was, and so is its count of faults
-abbrev pub IsUntouched : Ends → Ends → Type 0
+abbrev pub IsUntouched : Channels → Channels → Type 0
 IsUntouched old new = Keeps old.left new.left × (new.reads ≡ old.reads)
 
 -- nothing was written, and no fault was counted in writing
-abbrev pub IsUnwritten : Ends → Ends → Type 0
+abbrev pub IsUnwritten : Channels → Channels → Type 0
 IsUnwritten old new = Keeps old.held new.held × (new.writes ≡ old.writes)
 
 -- the whole output was written
-abbrev pub WroteOutput : Ends → Ends → List ℕ → Type 0
+abbrev pub WroteOutput : Channels → Channels → List ℕ → Type 0
 WroteOutput old new bytes = (text : List ℕ) × IsOutput bytes text × Appends old.held new.held text
 
 -- a prefix of the output was written
-abbrev pub WrotePart : Ends → Ends → List ℕ → Type 0
+abbrev pub WrotePart : Channels → Channels → List ℕ → Type 0
 WrotePart old new bytes = (text : List ℕ) × IsOutput bytes text × AppendsPrefix old.held new.held text
 
 -- no cause holds, and the form is built
@@ -52,7 +52,7 @@ abbrev pub IsTaken : List ℕ → Type 0
 IsTaken bytes = (¬ IsRefused bytes) × (¬ IsUnbuilt bytes)
 
 -- the causes of each status, in the order in which they are tried, and what it leaves
-abbrev pub Holds : List (List ℕ) → Ends → Ends → Status → Type 0
+abbrev pub Holds : List (List ℕ) → Channels → Channels → Status → Type 0
 Holds words old new Usage = (is_run words ≡ false) × IsUntouched old new × IsUnwritten old new
 Holds words old new ReadFault =
     (is_run words ≡ true) × Rose old.reads new.reads × TakesAtMost old.left new.left input_limit × IsUnwritten old new

@@ -14,7 +14,7 @@ use Rattle.crowd_data.specs.declared.agent.Agent.{Agent}
 use Rattle.crowd_data.specs.declared.segment.Segment.{Segment}
 use Rattle.crowd_data.specs.declared.frame.Mark.{Mark}
 use Rattle.crowd_data.specs.declared.frame.Mark.TheVariants.{Feasible}
-use Rattle.crowd_data.specs.Advice.{IsAdvice, IsCrowded, IsMarked, Moves, agent_at, hard_planes, neighbours_of, share_against, soft_planes}
+use Rattle.crowd_data.specs.Advice.{IsAdvice, IsCrowded, IsMarked, GivesWay, agent_at, hard_planes, neighbours_of, share_against, soft_planes}
 use Rattle.crowd_data.specs.RingPlanes.{ring_planes, ring_points}
 use Rattle.hard_plane.proofs.RingPoints.{ring_planes_of-plain}
 use Rattle.hard_plane.proofs.ShortPoint.{rounded_within}
@@ -43,7 +43,7 @@ rounded_slow speed p point inside =
     (ring_short (pos 65) ring_points speed p (omega (arith, ints)) point refl
     (subst (λ planes. All (λ plane. IsIn plane p) planes) (sym (ring_planes_of-plain (pos 65) ring_points speed refl refl)) inside))
 
-moves_slow : (segments : List Segment) (crowd : List Agent) (who : ℕ) (vel : V2) (mark : Mark) (relief : ℕ) → Moves segments crowd who vel mark relief
+moves_slow : (segments : List Segment) (crowd : List Agent) (who : ℕ) (vel : V2) (mark : Mark) (relief : ℕ) → GivesWay segments crowd who vel mark relief
     → square vel ≤ℤ (pos (agent_at crowd who).speed *ℤ pos (agent_at crowd who).speed)
 moves_slow segments crowd who vel mark relief moves =
     let (p, nearest, is) = moves.nearest in
@@ -75,7 +75,7 @@ relieved_of-zero plane =
     λ i. record { n = plane.n; c = e i }
 
 -- the share is met, its drawn form being among the unrelieved soft half-planes
-moves_meets : (segments : List Segment) (crowd : List Agent) (who : ℕ) (vel : V2) (mark : Mark) (other : ℕ) (plane : Plane) → Moves segments crowd who vel mark 0
+moves_meets : (segments : List Segment) (crowd : List Agent) (who : ℕ) (vel : V2) (mark : Mark) (other : ℕ) (plane : Plane) → GivesWay segments crowd who vel mark 0
     → Contains (neighbours_of crowd who) other → share_against crowd who other ≡ drawn_of plane → IsIn plane (whole vel)
 moves_meets segments crowd who vel mark other plane moves seen share =
     let (p, nearest, is) = moves.nearest in

@@ -4,10 +4,10 @@ use Rattle.std.proofs.lemmas.Int.{by_lt_z, ints}
 use Rattle.std.proofs.Math.Nat.{mul-le-mul}
 use Rattle.exact_algebra.proofs.Ring.{quotes, shown}
 use Rattle.exact_algebra.proofs.Order.{square_nonneg, sum_nonneg, gap_nonneg}
+use Rattle.exact_algebra.proofs.Sizes.{whole_root_le}
 use Rattle.fixed_vec.specs.declared.vector.V2.{V2}
 use Rattle.fixed_vec.specs.Vector.{square, times}
 use Rattle.crowd_data.specs.Limits.{IsVelocity}
-use Rattle.hard_plane.proofs.Sizes.{root_le}
 
 -- below the square of a range within its limit
 pub near_square : (z : ℤ) (range : ℕ) → unsigned_abs z < range * range → range ≤ 65536 → z <ℤ pos (2 ^ 32)
@@ -31,8 +31,8 @@ times_one v =
 coordinate_within : (x y : ℤ) (s : ℕ) → (x *ℤ x +ℤ y *ℤ y) ≤ℤ (pos s *ℤ pos s) → unsigned_abs x ≤ s
 coordinate_within x y s short =
     let some : pos 0 ≤ℤ pos s = omega (arith, ints) in
-    let high = root_le x (pos s) some (shown (x ∷ y ∷ pos s ∷ []) (sum_nonneg _ _ (gap_nonneg _ _ short) (square_nonneg y)) (search quotes depth 40 fits 20000) tt) in
-    let low = root_le (neg_ℤ x) (pos s) some (shown (x ∷ y ∷ pos s ∷ []) (sum_nonneg _ _ (gap_nonneg _ _ short) (square_nonneg y)) (search quotes depth 40 fits 20000) tt) in
+    let high = whole_root_le x (pos s) some (shown (x ∷ y ∷ pos s ∷ []) (sum_nonneg _ _ (gap_nonneg _ _ short) (square_nonneg y)) (search quotes depth 40 fits 20000) tt) in
+    let low = whole_root_le (neg_ℤ x) (pos s) some (shown (x ∷ y ∷ pos s ∷ []) (sum_nonneg _ _ (gap_nonneg _ _ short) (square_nonneg y)) (search quotes depth 40 fits 20000) tt) in
     omega (arith, ints, high, low)
 
 -- what keeps a speed within its limit is a velocity

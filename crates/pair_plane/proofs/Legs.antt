@@ -4,12 +4,13 @@ use Rattle.std.proofs.lemmas.Int.{ints}
 use Rattle.exact_algebra.proofs.Ring.{quotes, equal, shown}
 use Rattle.exact_algebra.proofs.Order.{square_nonneg, product_nonneg, sum_nonneg, gap_nonneg}
 use Rattle.exact_algebra.proofs.Rounding.{floor_root_le}
+use Rattle.exact_algebra.proofs.Sizes.{root_lt}
 use Rattle.fixed_vec.specs.declared.vector.V2.{V2}
 use Rattle.fixed_vec.specs.Vector.{minus, perp, square, times}
+use Rattle.fixed_vec.proofs.Squares.{square_whole}
 use Rattle.crowd_data.specs.declared.pair.Disc.{Disc}
 use Rattle.crowd_data.specs.declared.pair.Region.TheVariants.{Left, Right}
-use Rattle.crowd_data.specs.Pairs.{IsPair, joint_radius, leg_length, leg_normal, offset, relative_in}
-use Rattle.pair_plane.proofs.Lengths.{root_lt, square_whole}
+use Rattle.crowd_data.specs.Pairs.{IsPair, combined_radius, leg_length, leg_normal, relative_position, relative_in}
 use Rattle.pair_plane.proofs.Regions.{NoOverlap}
 use Rattle.pair_plane.proofs.Sized.{Sized}
 
@@ -41,23 +42,23 @@ below_square z q k e h b =
     omega (arith, ints, mul-le-mul m m)
 
 turned_sized : (low high : Disc) (tau : ℕ) (l : ℤ) → IsPair low high tau → NoOverlap low high
-    → (l *ℤ l +ℤ joint_radius low high *ℤ joint_radius low high) ≤ℤ square (offset low high)
+    → (l *ℤ l +ℤ combined_radius low high *ℤ combined_radius low high) ≤ℤ square (relative_position low high)
     → Sized (record { n = leg_normal low high l; c = pos 0 }) 131072
 turned_sized low high tau l h apart close =
-    let p = offset low high in
+    let p = relative_position low high in
     let some : 1 ≤ low.radius + high.radius = omega (arith, h.some_low_radius) in
     record {
-      nonzero = turned_nonzero p (joint_radius low high) l (omega (arith, ints, mul-le-mul some some)) apart;
-      normal = below_square _ (square p) (unsigned_abs (square p)) (square_whole p) h.near (turned_le p (joint_radius low high) l close);
+      nonzero = turned_nonzero p (combined_radius low high) l (omega (arith, ints, mul-le-mul some some)) apart;
+      normal = below_square _ (square p) (unsigned_abs (square p)) (square_whole p) h.near (turned_le p (combined_radius low high) l close);
       offset = omega arith;
     }
 
 -- the leg, rounded down, is no longer than the real one
 leg_le : (low high : Disc) → NoOverlap low high
-    → (leg_length low high *ℤ leg_length low high +ℤ joint_radius low high *ℤ joint_radius low high) ≤ℤ square (offset low high)
+    → (leg_length low high *ℤ leg_length low high +ℤ combined_radius low high *ℤ combined_radius low high) ≤ℤ square (relative_position low high)
 leg_le low high apart =
-    let R = joint_radius low high in
-    omega (arith, ints, floor_root_le (unsigned_abs (square (offset low high) -ℤ R *ℤ R)))
+    let R = combined_radius low high in
+    omega (arith, ints, floor_root_le (unsigned_abs (square (relative_position low high) -ℤ R *ℤ R)))
 
 pub left_sized : (low high : Disc) (tau : ℕ) → IsPair low high tau → NoOverlap low high → Sized (relative_in low high tau Left) 131072
 left_sized low high tau h apart = turned_sized low high tau (leg_length low high) h apart (leg_le low high apart)
@@ -71,7 +72,7 @@ right_sized low high tau h apart = turned_sized low high tau (neg_ℤ (leg_lengt
 -- and as a number
 pub leg_small : (low high : Disc) (tau : ℕ) → IsPair low high tau → unsigned_abs (leg_length low high) < 2 ^ 17
 leg_small low high tau h =
-    let R = joint_radius low high in
+    let R = combined_radius low high in
     let r : low.radius + high.radius ≤ 65536 = omega (arith, h.low_radius, h.high_radius) in
-    let f = floor_root_le (unsigned_abs (square (offset low high) -ℤ R *ℤ R)) in
-    root_lt (unsigned_abs (leg_length low high)) (2 ^ 17) (omega (arith, ints, h.near, square_whole (offset low high), mul-le-mul r r))
+    let f = floor_root_le (unsigned_abs (square (relative_position low high) -ℤ R *ℤ R)) in
+    root_lt (unsigned_abs (leg_length low high)) (2 ^ 17) (omega (arith, ints, h.near, square_whole (relative_position low high), mul-le-mul r r))

@@ -6,32 +6,18 @@ use Rattle.std.proofs.lemmas.Bool.{cases_lt}
 use Rattle.exact_algebra.proofs.Order.{square_nonneg}
 use Rattle.exact_algebra.proofs.Cauchy.{along_le}
 use Rattle.exact_algebra.proofs.Rounding.{ceil_root_reaches, ceil_root_first}
+use Rattle.exact_algebra.proofs.Sizes.{root_le, root_lt, square_abs}
 use Rattle.fixed_vec.specs.declared.vector.V2.{V2}
 use Rattle.fixed_vec.specs.Vector.{IsBelow, dot, square}
 use Rattle.fixed_vec.specs.HalfPlane.{whole_length}
+use Rattle.fixed_vec.proofs.Squares.{square_whole}
 use Rattle.crowd_data.specs.Limits.{IsWithin}
-
-pub square_abs : (z : ℤ) → z *ℤ z ≡ pos (unsigned_abs z * unsigned_abs z)
-square_abs (pos n) = omega (arith, ints)
-square_abs (negsuc n) = omega (arith, ints)
-
--- from squares to the numbers
-pub root_le : (a b : ℕ) → a * a ≤ b * b → a ≤ b
-root_le a b h = ⊎_elim (λ k. absurd (omega (arith, mul-lt b b a a k k))) (λ k. k) (cases_lt b a)
-
-pub root_lt : (a b : ℕ) → a * a < b * b → a < b
-root_lt a b h = ⊎_elim (λ k. k) (λ k. absurd (omega (arith, mul-le-mul k k))) (cases_lt a b)
 
 -- a vector shorter than b has coordinates below b
 pub coordinates_lt : (n : V2) (b : ℕ) → square n <ℤ pos (b * b) → IsBelow n b
 coordinates_lt n b h =
     let e = square_abs n.x in let f = square_abs n.y in
     (root_lt (unsigned_abs n.x) b (omega (arith, ints)), root_lt (unsigned_abs n.y) b (omega (arith, ints)))
-
-pub square_whole : (n : V2) → square n ≡ pos (unsigned_abs (square n))
-square_whole n =
-    let e = square_nonneg n.x in let f = square_nonneg n.y in
-    omega (arith, ints)
 
 -- the whole length reaches the length
 pub length_reaches : (n : V2) → square n ≤ℤ pos (whole_length n * whole_length n)

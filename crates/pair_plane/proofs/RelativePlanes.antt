@@ -10,7 +10,8 @@ use Rattle.crowd_data.specs.declared.pair.Disc.{Disc}
 use Rattle.crowd_data.specs.Limits.{IsWithin}
 use Rattle.crowd_data.specs.declared.pair.Region.{Region}
 use Rattle.crowd_data.specs.declared.pair.Region.TheVariants.{Arc, Overlap}
-use Rattle.crowd_data.specs.Pairs.{IsPair, from_cutoff, held_off, offset, overlap_normal, region_of, relative_in, relative_plane, relative_velocity}
+use Rattle.crowd_data.specs.Pairs.{IsPair, from_cutoff, held_off, relative_position, overlap_normal, region_of, relative_in, relative_plane, relative_velocity}
+use Rattle.crowd_data.proofs.PairNormals.{overlap_normal-nonzero}
 use Rattle.pair_plane.proofs.Legs.{left_sized, right_sized}
 use Rattle.pair_plane.proofs.Lengths.{dot_le, length_le, square_le}
 use Rattle.pair_plane.proofs.Parts.{ceil_abs}
@@ -21,7 +22,7 @@ use Rattle.pair_plane.proofs.Sizes.{cutoff_small, offset_small, velocity_within}
 -- the border of the disc of the joint radius is as far off as the offset and the radius together
 held_le : (low high : Disc) (tau : ℕ) (n : V2) → IsPair low high tau → unsigned_abs (held_off low high n) ≤ 131072 * whole_length n
 held_le low high tau n h =
-    by (whole_length n) (dot n (offset low high)) (low.radius + high.radius) (omega (arith, h.low_radius, h.high_radius)) (dot_le n (offset low high) 65536 (omega (arith, ints, h.near)))
+    by (whole_length n) (dot n (relative_position low high)) (low.radius + high.radius) (omega (arith, h.low_radius, h.high_radius)) (dot_le n (relative_position low high) 65536 (omega (arith, ints, h.near)))
   where
     by : (l : ℕ) (d : ℤ) (r : ℕ) → r ≤ 65536 → unsigned_abs d ≤ 65536 * l → unsigned_abs (d +ℤ pos r *ℤ pos l) ≤ 131072 * l
     by l d r small p = let q : r * l ≤ 65536 * l = mul-le-mul small (omega arith) in omega (arith, ints)
@@ -31,26 +32,16 @@ within n b h = (omega arith, omega arith)
 
 overlap_normal_small : (low high : Disc) (tau : ℕ) → IsPair low high tau → IsBelow (overlap_normal low high) (2 ^ 17)
 overlap_normal_small low high tau h =
-    by (int_eq (square (minus (relative_velocity low high) (offset low high))) (pos 0)) (offset_small low high tau h) (velocity_within low high tau h)
+    by (int_eq (square (minus (relative_velocity low high) (relative_position low high))) (pos 0)) (offset_small low high tau h) (velocity_within low high tau h)
   where
-    by : (b : Bool) → IsBelow (offset low high) (2 ^ 16) → IsWithin (relative_velocity low high) 32768
-        → IsBelow (cond b (record { x = pos 1; y = pos 0 }) (minus (relative_velocity low high) (offset low high))) (2 ^ 17)
+    by : (b : Bool) → IsBelow (relative_position low high) (2 ^ 16) → IsWithin (relative_velocity low high) 32768
+        → IsBelow (cond b (record { x = pos 1; y = pos 0 }) (minus (relative_velocity low high) (relative_position low high))) (2 ^ 17)
     by true p w = (omega arith, omega arith)
     by false p w = (omega (arith, ints), omega (arith, ints))
 
-eq_false : (a b : ℤ) → int_eq a b ≡ false → a ≡ b → ⊥
-eq_false a b e f = grind (arith, ints)
-
-overlap_normal_nonzero : (low high : Disc) → pos 0 <ℤ square (overlap_normal low high)
-overlap_normal_nonzero low high = by (minus (relative_velocity low high) (offset low high)) (int_eq (square (minus (relative_velocity low high) (offset low high))) (pos 0)) refl
-  where
-    by : (u : V2) (b : Bool) → int_eq (square u) (pos 0) ≡ b → pos 0 <ℤ square (cond b (record { x = pos 1; y = pos 0 }) u)
-    by u true e = omega (arith, ints)
-    by u false e = let x = square_nonneg u.x in let y = square_nonneg u.y in let f = eq_false (square u) (pos 0) e in omega (arith, ints)
-
 pub overlap_sized : (low high : Disc) (tau : ℕ) → IsPair low high tau → Sized (relative_in low high tau Overlap) 131072
 overlap_sized low high tau h = record {
-  nonzero = overlap_normal_nonzero low high;
+  nonzero = overlap_normal-nonzero low high;
   normal = omega (arith, ints, square_le (overlap_normal low high) (2 ^ 17) (within (overlap_normal low high) (2 ^ 17) (overlap_normal_small low high tau h)));
   offset = held_le low high tau (overlap_normal low high) h;
 }
@@ -62,9 +53,9 @@ nonzero_against n v b h k = by_lt_z (pos 0) (square n) (λ some. some) (λ none.
     let o : b * whole_length n ≤ b * 0 = mul-le-mul (omega arith) l in
     absurd (omega (arith, ints, dot_le n v b h)))
 
-pub arc_sized : (low high : Disc) (tau : ℕ) → IsPair low high tau → dot (from_cutoff low high tau) (offset low high) <ℤ pos 0 → Sized (relative_in low high tau Arc) 131072
+pub arc_sized : (low high : Disc) (tau : ℕ) → IsPair low high tau → dot (from_cutoff low high tau) (relative_position low high) <ℤ pos 0 → Sized (relative_in low high tau Arc) 131072
 arc_sized low high tau h against = record {
-  nonzero = nonzero_against (from_cutoff low high tau) (offset low high) 65536 (omega (arith, ints, h.near)) against;
+  nonzero = nonzero_against (from_cutoff low high tau) (relative_position low high) 65536 (omega (arith, ints, h.near)) against;
   normal = omega (arith, ints, square_le (from_cutoff low high tau) (2 ^ 28) (within (from_cutoff low high tau) (2 ^ 28) (cutoff_small low high tau h)));
   offset = omega (arith, held_le low high tau (from_cutoff low high tau) h, ceil_abs (held_off low high (from_cutoff low high tau)) (pos tau) (omega (arith, ints, h.some_tau)));
 }

@@ -6,6 +6,7 @@ use Rattle.exact_algebra.proofs.Ring.{quotes, equal}
 use Rattle.fixed_vec.specs.declared.vector.V2.{V2}
 use Rattle.fixed_vec.specs.Vector.{dot, opposite, square}
 use Rattle.fixed_vec.specs.HalfPlane.{whole_length}
+use Rattle.fixed_vec.proofs.Squares.{square-opposite}
 use Rattle.crowd_data.specs.declared.pair.Disc.{Disc}
 use Rattle.crowd_data.specs.Limits.{IsVelocity}
 use Rattle.crowd_data.specs.Pairs.{IsPair, higher_share, lack, lower_share, relative_plane, relative_velocity}
@@ -46,19 +47,15 @@ lower_sized low high tau h = record {
     by : (d g half : ℤ) (l : ℕ) → unsigned_abs d ≤ 23171 * l → unsigned_abs g ≤ 177413 * l → unsigned_abs half ≤ unsigned_abs g → unsigned_abs (d +ℤ half) ≤ 200584 * l
     by d g half l p q r = omega (arith, ints)
 
--- turned round, a normal is as long as before
-turned_round : (n : V2) → square (opposite n) ≡ square n
-turned_round n = equal (n.x ∷ n.y ∷ []) (search quotes depth 40) tt
-
 pub higher_sized : (low high : Disc) (tau : ℕ) → IsPair low high tau → Sized (higher_share low high tau) 200584
 higher_sized low high tau h =
     let n = (relative_plane low high tau).n in
     let g = lack low high tau in
     record {
-      nonzero = subst (λ z. pos 0 <ℤ z) (sym (turned_round n)) (relative_sized low high tau h).nonzero;
-      normal = subst (λ z. z <ℤ pos (2 ^ 64)) (sym (turned_round n)) (relative_sized low high tau h).normal;
+      nonzero = subst (λ z. pos 0 <ℤ z) (sym (square-opposite n)) (relative_sized low high tau h).nonzero;
+      normal = subst (λ z. z <ℤ pos (2 ^ 64)) (sym (square-opposite n)) (relative_sized low high tau h).normal;
       offset =
-          subst (λ z. unsigned_abs (higher_share low high tau).c ≤ 200584 * ceil_root (unsigned_abs z)) (sym (turned_round n))
+          subst (λ z. unsigned_abs (higher_share low high tau).c ≤ 200584 * ceil_root (unsigned_abs z)) (sym (square-opposite n))
           (by (dot n high.vel) g (g -ℤ ceil g (pos 2)) (whole_length n) (along_le n high.vel h.high_vel) (lack_le low high tau h) (rest_abs g));
     }
   where

@@ -10,8 +10,8 @@ use crowd_data::{Disc, Region};
 fn is_overlap(pair: &Pair) -> bool
     ensures { result ≡ is_overlap_of pair.now.low pair.now.high }
 {
-    let offset = pair.offset();
-    dot(offset, offset) < pair.joint_square()
+    let relative_position = pair.relative_position();
+    dot(relative_position, relative_position) < pair.joint_square()
 }
 
 // The relative velocity is nearest to the arc of the cut-off disc, not to a leg.
@@ -19,7 +19,7 @@ fn is_arc(pair: &Pair) -> bool
     ensures { result ≡ is_arc_of pair.now.low pair.now.high pair.now.tau }
 {
     let from_cutoff = pair.from_cutoff();
-    let along = dot(from_cutoff, pair.offset());
+    let along = dot(from_cutoff, pair.relative_position());
     along < 0 && product(pair.joint_square(), dot(from_cutoff, from_cutoff)) < product(along, along)
 }
 
@@ -31,7 +31,7 @@ pub fn part(pair: &Pair) -> Region
         Region::Overlap
     } else if is_arc(pair) {
         Region::Arc
-    } else if cross(pair.offset(), pair.from_cutoff()) > 0 {
+    } else if cross(pair.relative_position(), pair.from_cutoff()) > 0 {
         Region::Left
     } else {
         Region::Right

@@ -1,7 +1,7 @@
 // The legs of a velocity obstacle: its tangents from the origin.
 ghost use Rattle.std.specs.Prelude.{◌≡◌, ◌^◌, ◌<◌, neg_ℤ, ◌-ℤ◌, ◌*ℤ◌, unsigned_abs};
 ghost use Rattle.fixed_vec.specs.Vector.{square};
-ghost use Rattle.crowd_data.specs.Pairs.{joint_radius, leg_length as leg_length_of, leg_normal as leg_normal_of, offset};
+ghost use Rattle.crowd_data.specs.Pairs.{combined_radius, leg_length as leg_length_of, leg_normal as leg_normal_of, relative_position};
 
 use crate::narrow::dot;
 use crate::pair::Pair;
@@ -9,10 +9,10 @@ use fixed_vec::{V2, floor_root, perp};
 
 // The square of a leg.
 fn leg_square(pair: &Pair) -> i64
-    ensures { result ≡ square (offset pair.now.low pair.now.high) -ℤ joint_radius pair.now.low pair.now.high *ℤ joint_radius pair.now.low pair.now.high }
+    ensures { result ≡ square (relative_position pair.now.low pair.now.high) -ℤ combined_radius pair.now.low pair.now.high *ℤ combined_radius pair.now.low pair.now.high }
 {
-    let offset = pair.offset();
-    dot(offset, offset) - pair.joint_square()
+    let relative_position = pair.relative_position();
+    dot(relative_position, relative_position) - pair.joint_square()
 }
 
 /// The length of a leg, rounded down.
@@ -47,11 +47,11 @@ pub fn leg_normal(pair: &Pair, leg: i64) -> V2
     requires { unsigned_abs leg < 2 ^ 17 }
     ensures { result ≡ leg_normal_of pair.now.low pair.now.high leg }
 {
-    let offset = pair.offset();
-    let across = perp(offset);
-    let radius = pair.joint_radius();
+    let relative_position = pair.relative_position();
+    let across = perp(relative_position);
+    let radius = pair.combined_radius();
     V2 {
-        x: turned(leg, across.x, radius, offset.x),
-        y: turned(leg, across.y, radius, offset.y),
+        x: turned(leg, across.x, radius, relative_position.x),
+        y: turned(leg, across.y, radius, relative_position.y),
     }
 }

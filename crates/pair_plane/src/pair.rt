@@ -2,7 +2,7 @@
 ghost use Rattle.std.specs.Prelude.{◌≡◌, ◌^◌, ◌<◌, ◌≤◌, pos, ◌-ℤ◌, ◌*ℤ◌, unsigned_abs};
 ghost use Rattle.fixed_vec.specs.Vector.{IsBelow};
 ghost use Rattle.crowd_data.specs.Limits.{IsWithin};
-ghost use Rattle.crowd_data.specs.Pairs.{IsPair, from_cutoff as from_cutoff_of, joint_radius as joint_radius_of, offset as offset_of, relative_velocity as relative_velocity_of};
+ghost use Rattle.crowd_data.specs.Pairs.{IsPair, from_cutoff as from_cutoff_of, combined_radius as combined_radius_of, relative_position as relative_position_of, relative_velocity as relative_velocity_of};
 
 use crowd_data::Disc;
 use fixed_vec::V2;
@@ -17,19 +17,19 @@ pub struct Pair {
 }
 
 // A coordinate of the way of `horizon` steps with a velocity, seen from an offset.
-fn way_past(horizon: i64, velocity: i64, offset: i64) -> i64
+fn way_past(horizon: i64, velocity: i64, relative_position: i64) -> i64
     requires horizon { unsigned_abs horizon ≤ 4096 }
     requires velocity { unsigned_abs velocity ≤ 32768 }
-    requires offset { unsigned_abs offset < 2 ^ 16 }
-    ensures { result ≡ horizon *ℤ velocity -ℤ offset }
+    requires relative_position { unsigned_abs relative_position < 2 ^ 16 }
+    ensures { result ≡ horizon *ℤ velocity -ℤ relative_position }
 {
-    horizon * velocity - offset
+    horizon * velocity - relative_position
 }
 
 impl Pair {
     /// Where the high disc is, seen from the low one.
-    pub fn offset(&self) -> V2
-        ensures value { result ≡ offset_of self.now.low self.now.high }
+    pub fn relative_position(&self) -> V2
+        ensures value { result ≡ relative_position_of self.now.low self.now.high }
         ensures small { IsBelow result (2 ^ 16) }
     {
         V2 {
@@ -57,8 +57,8 @@ impl Pair {
     }
 
     /// The sum of the radii.
-    pub fn joint_radius(&self) -> i64
-        ensures value { result ≡ joint_radius_of self.now.low self.now.high }
+    pub fn combined_radius(&self) -> i64
+        ensures value { result ≡ combined_radius_of self.now.low self.now.high }
         ensures small { unsigned_abs result ≤ 2 ^ 16 }
     {
         (self.low.radius + self.high.radius) as i64
@@ -66,9 +66,9 @@ impl Pair {
 
     /// The square of the sum of the radii.
     pub fn joint_square(&self) -> i64
-        ensures { result ≡ joint_radius_of self.now.low self.now.high *ℤ joint_radius_of self.now.low self.now.high }
+        ensures { result ≡ combined_radius_of self.now.low self.now.high *ℤ combined_radius_of self.now.low self.now.high }
     {
-        let radius = self.joint_radius();
+        let radius = self.combined_radius();
         radius * radius
     }
 
@@ -77,12 +77,12 @@ impl Pair {
         ensures value { result ≡ from_cutoff_of self.now.low self.now.high self.now.tau }
         ensures small { IsBelow result (2 ^ 28) }
     {
-        let offset = self.offset();
+        let relative_position = self.relative_position();
         let velocity = self.relative_velocity();
         let horizon = self.horizon();
         V2 {
-            x: way_past(horizon, velocity.x, offset.x),
-            y: way_past(horizon, velocity.y, offset.y),
+            x: way_past(horizon, velocity.x, relative_position.x),
+            y: way_past(horizon, velocity.y, relative_position.y),
         }
     }
 }

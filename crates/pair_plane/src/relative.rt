@@ -4,7 +4,7 @@ ghost use Rattle.exact_algebra.specs.Numbers.{ceil};
 ghost use Rattle.fixed_vec.specs.Vector.{IsBelow};
 ghost use Rattle.fixed_vec.specs.HalfPlane.{FitsPlane, whole_length};
 ghost use Rattle.crowd_data.specs.Limits.{IsWithin};
-ghost use Rattle.crowd_data.specs.Pairs.{IsPair, from_cutoff, held_off as held_off_of, joint_radius, leg_normal as leg_normal_of, overlap_normal as overlap_normal_of, region_of, relative_in, relative_plane as relative_plane_of};
+ghost use Rattle.crowd_data.specs.Pairs.{IsPair, from_cutoff, held_off as held_off_of, combined_radius, leg_normal as leg_normal_of, overlap_normal as overlap_normal_of, region_of, relative_in, relative_plane as relative_plane_of};
 ghost use Rattle.crowd_data.specs.declared.pair.Region.TheVariants.{Arc, Overlap};
 
 use crate::border::part;
@@ -19,17 +19,17 @@ fn overlap_normal(pair: &Pair) -> V2
     ensures value { result ≡ overlap_normal_of pair.now.low pair.now.high }
     ensures small { IsBelow result (2 ^ 17) }
 {
-    let n = minus(pair.relative_velocity(), pair.offset());
+    let n = minus(pair.relative_velocity(), pair.relative_position());
     if dot(n, n) == 0 { V2 { x: 1, y: 0 } } else { n }
 }
 
 // The sum of the radii times the length of n.
 fn radius_times_length(pair: &Pair, n: V2) -> i64
     requires { IsWithin n (2 ^ 28) }
-    ensures value { result ≡ joint_radius pair.now.low pair.now.high *ℤ pos (whole_length n) }
+    ensures value { result ≡ combined_radius pair.now.low pair.now.high *ℤ pos (whole_length n) }
     ensures small { unsigned_abs result < 2 ^ 47 }
 {
-    pair.joint_radius() * length(n)
+    pair.combined_radius() * length(n)
 }
 
 // How far along n the border of the disc lies, times the length of n.
@@ -37,7 +37,7 @@ fn held_off(pair: &Pair, n: V2) -> i64
     requires { IsWithin n (2 ^ 28) }
     ensures { result ≡ held_off_of pair.now.low pair.now.high n }
 {
-    dot(n, pair.offset()) + radius_times_length(pair, n)
+    dot(n, pair.relative_position()) + radius_times_length(pair, n)
 }
 
 fn overlap_plane(pair: &Pair) -> HalfPlane

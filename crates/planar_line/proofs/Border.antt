@@ -3,12 +3,13 @@ use Rattle.std.proofs.Common.{◌≡◌, [], ◌∷◌, subst, sym, arith, ℤ, 
 use Rattle.std.proofs.lemmas.Int.{ints}
 use Rattle.exact_algebra.proofs.Ring.{quotes, equal, shown}
 use Rattle.exact_algebra.proofs.Order.{product_nonneg, sum_nonneg, gap_nonneg, cancel}
+use Rattle.exact_algebra.proofs.Sizes.{product_positive}
 use Rattle.fixed_vec.specs.declared.vector.V2.{V2}
 use Rattle.fixed_vec.specs.Vector.{cross, dot, square}
 use Rattle.fixed_vec.specs.HalfPlane.{Plane}
 use Rattle.fixed_vec.specs.Point.{Rational, IsIn}
 use Rattle.planar_line.specs.Border.{IsOnBorder, IsBefore, along, lead_of, toward, foot_of, crossing_of}
-use Rattle.planar_line.proofs.Toward.{weak, product_pos}
+use Rattle.planar_line.proofs.Toward.{weak}
 
 -- how far inside the half-plane a point lies, times the length of the normal and q
 abbrev pub height : Plane → Rational → ℤ
@@ -36,7 +37,7 @@ module _ (h g : Plane) (x v : Rational) (nonzero : pos 0 <ℤ square h.n) (hx : 
       let more = product_nonneg (height g x) (square h.n *ℤ v.q) (gap_nonneg _ _ inside) (product_nonneg _ _ (weak _ nonzero) (weak _ hv.point)) in
       let zero_v = zero_nonneg (height h v) (k *ℤ x.q) (height-border h v hv) in
       let zero_x = zero_nonneg (height h x) (pos 0 -ℤ k *ℤ v.q) (height-border h x hx) in
-      cancel (g.c *ℤ v.q) (g.n.x *ℤ v.x +ℤ g.n.y *ℤ v.y) (square h.n *ℤ x.q) (product_pos _ _ nonzero hx.point)
+      cancel (g.c *ℤ v.q) (g.n.x *ℤ v.x +ℤ g.n.y *ℤ v.y) (square h.n *ℤ x.q) (product_positive _ _ nonzero hx.point)
       (shown (h.n.x ∷ h.n.y ∷ h.c ∷ g.n.x ∷ g.n.y ∷ g.c ∷ x.x ∷ x.y ∷ x.q ∷ v.x ∷ v.y ∷ v.q ∷ [])
       (sum_nonneg _ _ (sum_nonneg _ _ ahead more) (sum_nonneg _ _ zero_v zero_x))
       (search quotes depth 40 fits 20000) tt)

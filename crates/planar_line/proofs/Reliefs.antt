@@ -13,7 +13,7 @@ use Rattle.fixed_vec.specs.Vector.{square}
 use Rattle.fixed_vec.specs.HalfPlane.{Plane, FitsPlane, relieved_of, whole_length}
 use Rattle.fixed_vec.specs.Point.{Rational, IsPoint, IsIn}
 use Rattle.fixed_vec.specs.Meeting.{relieved_after}
-use Rattle.planar_line.specs.Relief.{CanBeRelieved, HasRoom, KeepBounds, no_plane}
+use Rattle.planar_line.specs.Relief.{CanBeRelieved, HasReliefRoom, KeepBounds, no_plane}
 use Rattle.planar_line.proofs.Toward.{weak}
 
 -- no relief changes nothing
@@ -117,7 +117,7 @@ whole_length-le plane fits =
     (λ below. below)
     (cases_lt (2 ^ 32) (whole_length plane.n))
 
-room-relieved : (plane : Plane) (d : ℕ) → HasRoom plane → d < 2 ^ 18 → CanBeRelieved plane d
+room-relieved : (plane : Plane) (d : ℕ) → HasReliefRoom plane → d < 2 ^ 18 → CanBeRelieved plane d
 room-relieved plane d h small =
     let short = whole_length-le plane h.fits in
     let moved : d * whole_length plane.n ≤ 2 ^ 18 * 2 ^ 32 = mul-le-mul (let le : d ≤ 2 ^ 18 = omega arith in le) short in
@@ -125,9 +125,9 @@ room-relieved plane d h small =
     omega (arith, ints)
 
 -- half-planes with room can be relieved by each number below 2^18
-pub keep-room : (hard relief : ℕ) (planes : List Plane) → relief < 2 ^ 18 → All HasRoom planes → KeepBounds hard relief planes
-keep-room hard relief planes small room = λ k e l. room-relieved (get_or (drop hard planes) k e) relief (All-drop HasRoom hard planes room k e l) small
+pub keep-room : (hard relief : ℕ) (planes : List Plane) → relief < 2 ^ 18 → All HasReliefRoom planes → KeepBounds hard relief planes
+keep-room hard relief planes small room = λ k e l. room-relieved (get_or (drop hard planes) k e) relief (All-drop HasReliefRoom hard planes room k e l) small
 
-pub keep-pair : (hard relief : ℕ) (first second : Plane) → relief < 2 ^ 18 → HasRoom first → HasRoom second → KeepBounds hard relief (first ∷ second ∷ [])
+pub keep-pair : (hard relief : ℕ) (first second : Plane) → relief < 2 ^ 18 → HasReliefRoom first → HasReliefRoom second → KeepBounds hard relief (first ∷ second ∷ [])
 keep-pair hard relief first second small h k = keep-room hard relief (first ∷ second ∷ []) small
-    (All-cons HasRoom first (second ∷ []) h (All-cons HasRoom second [] k (λ i e l. absurd (omega arith))))
+    (All-cons HasReliefRoom first (second ∷ []) h (All-cons HasReliefRoom second [] k (λ i e l. absurd (omega arith))))

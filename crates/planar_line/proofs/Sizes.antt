@@ -4,24 +4,18 @@ use Rattle.std.proofs.lemmas.Int.{ints}
 use Rattle.std.proofs.lemmas.Bool.{cases_lt}
 use Rattle.exact_algebra.proofs.Order.{square_nonneg}
 use Rattle.exact_algebra.proofs.Machine.{Within, reads, bounded}
+use Rattle.exact_algebra.proofs.Sizes.{root_lt, square_abs}
 use Rattle.fixed_vec.specs.declared.vector.V2.{V2}
 use Rattle.fixed_vec.specs.Vector.{cross, square}
 use Rattle.fixed_vec.specs.HalfPlane.{Plane, FitsPlane}
 use Rattle.fixed_vec.specs.Point.{Rational, FitsPoint}
 use Rattle.planar_line.specs.Border.{IsPreference, crossing_of, foot_of}
 
-square_abs : (z : ℤ) → z *ℤ z ≡ pos (unsigned_abs z * unsigned_abs z)
-square_abs (pos n) = omega (arith, ints)
-square_abs (negsuc n) = omega (arith, ints)
-
-root_below : (a b : ℕ) → a * a < b * b → a < b
-root_below a b h = ⊎_elim (λ k. k) (λ k. absurd (omega (arith, mul-le-mul k k))) (cases_lt a b)
-
 coordinate_below : (z w : ℤ) → (z *ℤ z) <ℤ pos (2 ^ 64) → unsigned_abs z ≤ 2 ^ 32 - 1
 coordinate_below z w h =
     let e = square_abs z in
     let p : unsigned_abs z * unsigned_abs z < (2 ^ 32) * (2 ^ 32) = omega (arith, ints) in
-    let r : unsigned_abs z < 2 ^ 32 = root_below (unsigned_abs z) (2 ^ 32) p in
+    let r : unsigned_abs z < 2 ^ 32 = root_lt (unsigned_abs z) (2 ^ 32) p in
     omega arith
 
 pub normal_below : (n : V2) → square n <ℤ pos (2 ^ 64) → (unsigned_abs n.x ≤ 2 ^ 32 - 1) × (unsigned_abs n.y ≤ 2 ^ 32 - 1)

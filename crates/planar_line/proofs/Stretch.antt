@@ -9,7 +9,7 @@ use Rattle.fixed_vec.specs.Vector.{cross, zero_vector}
 use Rattle.fixed_vec.specs.HalfPlane.{Plane}
 use Rattle.fixed_vec.specs.Point.{Rational, IsIn}
 use Rattle.planar_line.specs.Border.{IsOnBorder, IsBefore, along, lead_of, toward, foot_of, crossing_of}
-use Rattle.planar_line.specs.Span.{Stretch, IsStretch, IsWithin}
+use Rattle.planar_line.specs.Span.{Stretch, IsStretch, IsOnStretch}
 use Rattle.planar_line.proofs.Border.{in-border, carries_up, carries_down, carries_level, ahead_up, ahead_down, crossing-first, crossing-second, foot-border, turns_low, turns_high, turns_foot, foot_after, foot_before}
 
 -- the end is there, and P holds of it
@@ -35,14 +35,14 @@ lowered s g = record { border = s.border; low = s.low; high = Some (crossing_of 
 
 -- ---- a half-plane that bounds the stretch from below: it spares it, leaves nothing of it, or gives a new low end
 module _ (s : Stretch) (g : Plane) (ok : IsStretch s) (rises : pos 0 <ℤ cross s.border.n g.n) where
-  pub raised-same : IsSomeAnd s.low (IsIn g) → (p : Rational) → IsWithin s p → IsIn g p
+  pub raised-same : IsSomeAnd s.low (IsIn g) → (p : Rational) → IsOnStretch s p → IsIn g p
   raised-same = by s.low refl
     where
-      by : (low : Option Rational) → s.low ≡ low → IsSomeAnd low (IsIn g) → (p : Rational) → IsWithin s p → IsIn g p
+      by : (low : Option Rational) → s.low ≡ low → IsSomeAnd low (IsIn g) → (p : Rational) → IsOnStretch s p → IsIn g p
       by None e h p w = absurd h
       by (Some low) e h p w = carries_up s.border g low p ok.nonzero (ok.low low e) w.on rises (w.after low e) h
 
-  pub raised-none : (ForSome s.high (IsIn g) → ⊥) → (p : Rational) → IsWithin s p → IsIn g p → ⊥
+  pub raised-none : (ForSome s.high (IsIn g) → ⊥) → (p : Rational) → IsOnStretch s p → IsIn g p → ⊥
   raised-none out p w inside = out (λ high e. carries_up s.border g p high ok.nonzero w.on (ok.high high e) rises (w.before high e) inside)
 
   pub raised-stretch : ForSome s.high (IsIn g) → IsStretch (raised s g)
@@ -56,7 +56,7 @@ module _ (s : Stretch) (g : Plane) (ok : IsStretch s) (rises : pos 0 <ℤ cross 
             (λ high e. ahead_up s.border g (crossing_of s.border g) high ok.nonzero on (ok.high high e) rises (crossing-second s.border g rises) (kept high e));
       }
 
-  pub raised-exact : (IsSomeAnd s.low (IsIn g) → ⊥) → (p : Rational) → IsWithin (raised s g) p ↔ (IsWithin s p × IsIn g p)
+  pub raised-exact : (IsSomeAnd s.low (IsIn g) → ⊥) → (p : Rational) → IsOnStretch (raised s g) p ↔ (IsOnStretch s p × IsIn g p)
   raised-exact out p =
       let x = crossing_of s.border g in
       let on = crossing-first s.border g rises in
@@ -88,14 +88,14 @@ module _ (s : Stretch) (g : Plane) (ok : IsStretch s) (falls : cross s.border.n 
   rises : pos 0 <ℤ cross g.n s.border.n
   rises = turned s.border g falls
 
-  pub lowered-same : IsSomeAnd s.high (IsIn g) → (p : Rational) → IsWithin s p → IsIn g p
+  pub lowered-same : IsSomeAnd s.high (IsIn g) → (p : Rational) → IsOnStretch s p → IsIn g p
   lowered-same = by s.high refl
     where
-      by : (high : Option Rational) → s.high ≡ high → IsSomeAnd high (IsIn g) → (p : Rational) → IsWithin s p → IsIn g p
+      by : (high : Option Rational) → s.high ≡ high → IsSomeAnd high (IsIn g) → (p : Rational) → IsOnStretch s p → IsIn g p
       by None e h p w = absurd h
       by (Some high) e h p w = carries_down s.border g high p ok.nonzero (ok.high high e) w.on falls (w.before high e) h
 
-  pub lowered-none : (ForSome s.low (IsIn g) → ⊥) → (p : Rational) → IsWithin s p → IsIn g p → ⊥
+  pub lowered-none : (ForSome s.low (IsIn g) → ⊥) → (p : Rational) → IsOnStretch s p → IsIn g p → ⊥
   lowered-none out p w inside = out (λ low e. carries_down s.border g p low ok.nonzero w.on (ok.low low e) falls (w.after low e) inside)
 
   pub lowered-stretch : ForSome s.low (IsIn g) → IsStretch (lowered s g)
@@ -109,7 +109,7 @@ module _ (s : Stretch) (g : Plane) (ok : IsStretch s) (falls : cross s.border.n 
             (ahead_down s.border g (crossing_of g s.border) low ok.nonzero on (ok.low low e) falls (crossing-first g s.border rises) (kept low e));
       }
 
-  pub lowered-exact : (IsSomeAnd s.high (IsIn g) → ⊥) → (p : Rational) → IsWithin (lowered s g) p ↔ (IsWithin s p × IsIn g p)
+  pub lowered-exact : (IsSomeAnd s.high (IsIn g) → ⊥) → (p : Rational) → IsOnStretch (lowered s g) p ↔ (IsOnStretch s p × IsIn g p)
   lowered-exact out p =
       let x = crossing_of g s.border in
       let on = crossing-second g s.border rises in
@@ -132,17 +132,17 @@ module _ (s : Stretch) (g : Plane) (ok : IsStretch s) (falls : cross s.border.n 
 
 -- ---- a half-plane whose border is parallel
 module _ (s : Stretch) (g : Plane) (ok : IsStretch s) (level : cross s.border.n g.n ≡ pos 0) where
-  pub level-same : IsIn g (foot_of s.border zero_vector) → (p : Rational) → IsWithin s p → IsIn g p
+  pub level-same : IsIn g (foot_of s.border zero_vector) → (p : Rational) → IsOnStretch s p → IsIn g p
   level-same inside p w = carries_level s.border g (foot_of s.border zero_vector) p ok.nonzero (foot-border s.border zero_vector ok.nonzero) w.on level inside
 
-  pub level-none : (IsIn g (foot_of s.border zero_vector) → ⊥) → (p : Rational) → IsWithin s p → IsIn g p → ⊥
+  pub level-none : (IsIn g (foot_of s.border zero_vector) → ⊥) → (p : Rational) → IsOnStretch s p → IsIn g p → ⊥
   level-none out p w inside = out (carries_level s.border g p (foot_of s.border zero_vector) ok.nonzero w.on (foot-border s.border zero_vector ok.nonzero) level inside)
 
 -- ---- the nearest point
 -- p is a point of the stretch, and no point of it lies on the side of pref
 pub record IsBest (s : Stretch) (pref : V2) (p : Rational) : Type 0 where
-  pub within : IsWithin s p
-  pub toward : (v : Rational) → IsWithin s v → toward pref p v ≤ℤ pos 0
+  pub within : IsOnStretch s p
+  pub toward : (v : Rational) → IsOnStretch s v → toward pref p v ≤ℤ pos 0
 
 -- the low end where pref does not lie beyond it, the high end where it does not lie before it, and else the foot
 module _ (s : Stretch) (pref : V2) (ok : IsStretch s) where

@@ -11,13 +11,6 @@ use Rattle.planar_line.specs.Border.{toward}
 pub weak : (a : ℤ) → pos 0 <ℤ a → pos 0 ≤ℤ a
 weak a h = omega (arith, ints)
 
-pub product_pos : (a b : ℤ) → pos 0 <ℤ a → pos 0 <ℤ b → pos 0 <ℤ (a *ℤ b)
-product_pos a b h k =
-    let one : pos 0 ≤ℤ (a -ℤ pos 1) = omega (arith, ints) in
-    let two : pos 0 ≤ℤ (b -ℤ pos 1) = omega (arith, ints) in
-    let least : pos 1 ≤ℤ (a *ℤ b) = shown (a ∷ b ∷ []) (sum_nonneg _ _ (sum_nonneg _ _ one two) (product_nonneg _ _ one two)) (search quotes depth 40 fits 9000) tt in
-    omega (arith, ints)
-
 -- where the angle at p is not acute, p is no farther than v
 pub no_farther : (pref : V2) (p v : Rational) → IsPoint v → toward pref p v ≤ℤ pos 0 → IsNoFarther pref p v
 no_farther pref p v hv h =

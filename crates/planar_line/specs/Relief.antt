@@ -8,7 +8,7 @@ abbrev pub CanBeRelieved : Plane → ℕ → Type 0
 CanBeRelieved plane relief = neg_ℤ (pos (2 ^ 53)) <ℤ (relieved_of plane relief).c
 
 -- the half-plane can be relieved by each number below 2^18, since its offset is below 2^52 in size
-pub record HasRoom (plane : Plane) : Type 0 where
+pub record HasReliefRoom (plane : Plane) : Type 0 where
   pub fits : FitsPlane plane
   pub room : unsigned_abs plane.c < 2 ^ 52
 

@@ -20,11 +20,11 @@ pub record IsStretch (s : Stretch) : Type 0 where
   pub ordered : ForSome s.low (λ low. ForSome s.high (λ high. IsBefore s.border low high))
 
 -- p is a point of the border between the ends
-pub record IsWithin (s : Stretch) (p : Rational) : Type 0 where
+pub record IsOnStretch (s : Stretch) (p : Rational) : Type 0 where
   pub on : IsOnBorder s.border p
   pub after : ForSome s.low (λ low. IsBefore s.border low p)
   pub before : ForSome s.high (λ high. IsBefore s.border p high)
 
 -- s has the points of r of which P holds
 abbrev pub IsPart : Stretch → Stretch → (Rational → Type 0) → Type 0
-IsPart s r P = (p : Rational) → IsWithin s p ↔ (IsWithin r p × P p)
+IsPart s r P = (p : Rational) → IsOnStretch s p ↔ (IsOnStretch r p × P p)

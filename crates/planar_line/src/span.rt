@@ -7,7 +7,7 @@ ghost use Rattle.fixed_vec.specs.Vector.{cross as cross_of};
 ghost use Rattle.fixed_vec.specs.Meeting.{Meeting, IsNoFarther, relieved_after};
 ghost use Rattle.planar_line.specs.Border.{IsOnBorder, IsPreference, toward};
 ghost use Rattle.planar_line.specs.Relief.{KeepBounds};
-ghost use Rattle.planar_line.specs.Span.{Stretch, IsStretch, IsWithin, IsPart};
+ghost use Rattle.planar_line.specs.Span.{Stretch, IsStretch, IsOnStretch, IsPart};
 
 use crate::crossing::{crossing, slope};
 use crate::foot::{foot, lead};
@@ -57,7 +57,7 @@ fn is_no_end_out(plane: &HalfPlane, end: Option<Point>) -> bool
 impl Span {
     /// The whole border of the half-plane.
     pub fn whole(border: &HalfPlane) -> Span
-        ensures { (p : Rational) → IsWithin result p ↔ IsOnBorder border.now p }
+        ensures { (p : Rational) → IsOnStretch result p ↔ IsOnBorder border.now p }
     {
         // The reader tells that the normal isn't zero, so that the border has points.
         let _n = border.n();
@@ -70,7 +70,7 @@ impl Span {
 
     // Whether the half-plane is known at once to have all of the span. A parallel one is not.
     fn is_spared(&self, plane: &HalfPlane) -> bool
-        ensures { IsTrue result → (p : Rational) → IsWithin self.now p → IsIn plane.now p }
+        ensures { IsTrue result → (p : Rational) → IsOnStretch self.now p → IsIn plane.now p }
     {
         let slope = slope(&self.border, plane);
         if slope > 0 {
@@ -86,7 +86,7 @@ impl Span {
     fn raised(self, plane: &HalfPlane) -> Option<Span>
         requires { pos 0 <ℤ cross_of self.border.n plane.now.n }
         ensures exact { IfSome result (λ s. IsPart s self (IsIn plane.now)) }
-        ensures none { IfNone result ((p : Rational) → IsWithin self p → IsIn plane.now p → ⊥) }
+        ensures none { IfNone result ((p : Rational) → IsOnStretch self p → IsIn plane.now p → ⊥) }
     {
         if is_end_in(plane, self.low) {
             return Some(self);
@@ -106,7 +106,7 @@ impl Span {
     fn lowered(self, plane: &HalfPlane) -> Option<Span>
         requires { cross_of self.border.n plane.now.n <ℤ pos 0 }
         ensures exact { IfSome result (λ s. IsPart s self (IsIn plane.now)) }
-        ensures none { IfNone result ((p : Rational) → IsWithin self p → IsIn plane.now p → ⊥) }
+        ensures none { IfNone result ((p : Rational) → IsOnStretch self p → IsIn plane.now p → ⊥) }
     {
         if is_end_in(plane, self.high) {
             return Some(self);
@@ -125,7 +125,7 @@ impl Span {
     // The part of the span in the half-plane.
     fn cut(self, plane: &HalfPlane) -> Option<Span>
         ensures exact { IfSome result (λ s. IsPart s self (IsIn plane.now)) }
-        ensures none { IfNone result ((p : Rational) → IsWithin self p → IsIn plane.now p → ⊥) }
+        ensures none { IfNone result ((p : Rational) → IsOnStretch self p → IsIn plane.now p → ⊥) }
     {
         let slope = slope(&self.border, plane);
         if slope > 0 {
@@ -157,7 +157,7 @@ impl Span {
         ensures exact { IfSome result
             (λ s. IsPart s self (Meeting (slice_range (relieved_after hard relief planes.now) from to))) }
         ensures none { IfNone result
-            ((p : Rational) → IsWithin self p
+            ((p : Rational) → IsOnStretch self p
             → Meeting (slice_range (relieved_after hard relief planes.now) from to) p → ⊥) }
     {
         let mut span = self;
@@ -173,9 +173,9 @@ impl Span {
     /// The point of the span that is nearest to the whole point.
     pub fn nearest(&self, pref: V2) -> Point
         requires { IsPreference pref }
-        ensures within { IsWithin self.now result }
-        ensures toward { (v : Rational) → IsWithin self.now v → toward pref result v ≤ℤ pos 0 }
-        ensures no_farther { (v : Rational) → IsWithin self.now v → IsNoFarther pref result v }
+        ensures within { IsOnStretch self.now result }
+        ensures toward { (v : Rational) → IsOnStretch self.now v → toward pref result v ≤ℤ pos 0 }
+        ensures no_farther { (v : Rational) → IsOnStretch self.now v → IsNoFarther pref result v }
     {
         if let Some(low) = self.low {
             if lead(&self.border, &low, pref) <= 0 {

@@ -2,7 +2,7 @@
 ghost use Rattle.std.specs.Prelude.{◌≡◌, ◌^◌, ◌<◌, ◌≤◌};
 ghost use Rattle.fixed_vec.specs.HalfPlane.{FitsPlane};
 ghost use Rattle.planar_line.specs.Border.{IsPreference};
-ghost use Rattle.planar_line.specs.Relief.{HasRoom};
+ghost use Rattle.planar_line.specs.Relief.{HasReliefRoom};
 
 use crate::best_on_line;
 use fixed_vec::{HalfPlane, Point, V2};
@@ -24,8 +24,8 @@ fn best_on_second(
     relief: u32,
     pref: V2,
 ) -> Option<Point>
-    requires first { HasRoom first }
-    requires second { HasRoom second }
+    requires first { HasReliefRoom first }
+    requires second { HasReliefRoom second }
     requires hard { hard ≤ 2 }
     requires relief { relief < 2 ^ 18 }
     requires pref { IsPreference pref }

@@ -11,7 +11,7 @@ use Rattle.fixed_vec.specs.HalfPlane.{Plane}
 use Rattle.fixed_vec.specs.Point.{Rational, IsPoint, IsIn, whole}
 use Rattle.fixed_vec.specs.Meeting.{Meeting, IsEmpty, Nearest}
 use Rattle.planar_line.specs.Border.{IsOnBorder, lead_of, foot_of}
-use Rattle.planar_line.specs.Span.{Stretch, IsStretch, IsWithin, IsPart}
+use Rattle.planar_line.specs.Span.{Stretch, IsStretch, IsOnStretch, IsPart}
 use Rattle.planar_line.proofs.Toward.{weak, no_farther}
 use Rattle.planar_line.proofs.Border.{height, zero_nonneg}
 use Rattle.planar_line.proofs.Stretch.{some_by, none_by, raised, raised-same, raised-none, raised-stretch, raised-exact, lowered, lowered-same, lowered-none, lowered-stretch, lowered-exact, level-same, level-none, low-best, high-best, foot-best}
@@ -49,10 +49,10 @@ record PartOf (s : Stretch) (P : Rational → Type 0) : Type 0 where
 
 -- P holds of no point of s, or of those of a stretch
 abbrev NoneOrPart : Stretch → (Rational → Type 0) → Type 0
-NoneOrPart s P = ((p : Rational) → IsWithin s p → P p → ⊥) ⊎ PartOf s P
+NoneOrPart s P = ((p : Rational) → IsOnStretch s p → P p → ⊥) ⊎ PartOf s P
 
 -- where P holds of each point, the part is s
-all_of : (s : Stretch) (P : Rational → Type 0) → IsStretch s → ((p : Rational) → IsWithin s p → P p) → PartOf s P
+all_of : (s : Stretch) (P : Rational → Type 0) → IsStretch s → ((p : Rational) → IsOnStretch s p → P p) → PartOf s P
 all_of s P ok all = record { stretch = s; ok = ok; exact = λ p. (λ w. (w, all p w), λ b. b.0) }
 
 module _ (s : Stretch) (g : Plane) (ok : IsStretch s) where
@@ -134,7 +134,7 @@ end_or (Some p) P Q either = elim (either p) [
 ]
 
 -- each stretch has a best point: the low end, the high end or the foot
-best_within : (s : Stretch) (pref : V2) → IsStretch s → (p : Rational) × IsBest (IsWithin s) pref p
+best_within : (s : Stretch) (pref : V2) → IsStretch s → (p : Rational) × IsBest (IsOnStretch s) pref p
 best_within s pref ok =
     let lead = λ (p : Rational). lead_of s.border p pref in
     elim (end_or s.low (λ p. lead p ≤ℤ pos 0) (λ p. pos 0 ≤ℤ lead p) (λ p. le_total (lead p) (pos 0))) [
@@ -158,7 +158,7 @@ endless h = record { border = h; low = None; high = None }
 endless-stretch : (h : Plane) → pos 0 <ℤ square h.n → IsStretch (endless h)
 endless-stretch h nonzero = record { nonzero = nonzero; low = none_by None _ refl; high = none_by None _ refl; ordered = none_by None _ refl }
 
-endless-within : (h : Plane) (p : Rational) → IsOnBorder h p → IsWithin (endless h) p
+endless-within : (h : Plane) (p : Rational) → IsOnBorder h p → IsOnStretch (endless h) p
 endless-within h p on = record { on = on; after = none_by None _ refl; before = none_by None _ refl }
 
 best_on_border : (h : Plane) (planes : List Plane) (pref : V2) → pos 0 <ℤ square h.n → NoneOrBest (IsMetOn h planes) pref

@@ -5,11 +5,12 @@ use Rattle.exact_algebra.specs.Numbers.{floor}
 use Rattle.exact_algebra.proofs.Ring.{quotes, equal, shown}
 use Rattle.exact_algebra.proofs.Order.{square_nonneg, product_nonneg, sum_nonneg, gap_nonneg, cancel}
 use Rattle.exact_algebra.proofs.Rounding.{floor_le, floor_gt}
+use Rattle.exact_algebra.proofs.Sizes.{product_positive}
 use Rattle.fixed_vec.specs.declared.vector.V2.{V2}
 use Rattle.fixed_vec.specs.HalfPlane.{Plane}
 use Rattle.fixed_vec.specs.Point.{Rational, IsPoint, rounded_of}
 use Rattle.fixed_vec.specs.Meeting.{Nearest, IsNoFarther, squared_distance}
-use Rattle.planar_line.proofs.Toward.{weak, product_pos}
+use Rattle.planar_line.proofs.Toward.{weak}
 use Rattle.planar_program.proofs.Steps.{between}
 use Rattle.planar_program.proofs.Places.{convex-meeting}
 
@@ -29,7 +30,7 @@ middle p v = between p.q v.q p v
 
 -- what p's being no farther than the middle says, without p's denominator
 no_farther-middle : (pref : V2) (p v : Rational) → IsPoint p → IsNoFarther pref p (middle p v) → (squared_distance pref p *ℤ ((v.q +ℤ v.q) *ℤ (v.q +ℤ v.q))) ≤ℤ squared_distance pref (middle p v)
-no_farther-middle pref p v hp h = cancel _ _ (p.q *ℤ p.q) (product_pos p.q p.q hp hp)
+no_farther-middle pref p v hp h = cancel _ _ (p.q *ℤ p.q) (product_positive p.q p.q hp hp)
     (shown (pref.x ∷ pref.y ∷ p.x ∷ p.y ∷ p.q ∷ v.x ∷ v.y ∷ v.q ∷ []) (gap_nonneg _ _ h) (search quotes depth 40 fits 20000) tt)
 
 -- two nearest points have one value
@@ -57,7 +58,7 @@ rounds-le : (x q u d r s : ℤ) → pos 0 <ℤ q → pos 0 <ℤ d → x *ℤ d �
 rounds-le x q u d r s hq hd same low high = by_lt_z s r
     (λ less.
     let a = product_nonneg d (pos 2 *ℤ x +ℤ q -ℤ r *ℤ (pos 2 *ℤ q)) (weak d hd) (gap_nonneg _ _ low) in
-    let b = product_pos q (s *ℤ (pos 2 *ℤ d) +ℤ pos 2 *ℤ d -ℤ (pos 2 *ℤ u +ℤ d)) hq (omega (arith, ints)) in
+    let b = product_positive q (s *ℤ (pos 2 *ℤ d) +ℤ pos 2 *ℤ d -ℤ (pos 2 *ℤ u +ℤ d)) hq (omega (arith, ints)) in
     let c = product_nonneg (r -ℤ (s +ℤ pos 1)) (pos 2 *ℤ (q *ℤ d)) (omega (arith, ints)) (product_nonneg (pos 2) (q *ℤ d) (omega (arith, ints)) (product_nonneg q d (weak q hq) (weak d hd))) in
     let total : d *ℤ (pos 2 *ℤ x +ℤ q -ℤ r *ℤ (pos 2 *ℤ q)) +ℤ q *ℤ (s *ℤ (pos 2 *ℤ d) +ℤ pos 2 *ℤ d -ℤ (pos 2 *ℤ u +ℤ d)) +ℤ (r -ℤ (s +ℤ pos 1)) *ℤ (pos 2 *ℤ (q *ℤ d)) ≡ (x *ℤ d -ℤ u *ℤ q) +ℤ (x *ℤ d -ℤ u *ℤ q) =
     equal (x ∷ q ∷ u ∷ d ∷ r ∷ s ∷ []) (search quotes depth 40 fits 20000) tt in

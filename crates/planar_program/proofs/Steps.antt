@@ -3,11 +3,12 @@ use Rattle.std.proofs.Common.{◌≡◌, [], ◌∷◌, ◌↔◌, arith, ℤ, p
 use Rattle.std.proofs.lemmas.Int.{ints, by_lt_z}
 use Rattle.exact_algebra.proofs.Ring.{quotes, equal, shown}
 use Rattle.exact_algebra.proofs.Order.{product_nonneg, sum_nonneg, gap_nonneg, cancel}
+use Rattle.exact_algebra.proofs.Sizes.{product_positive}
 use Rattle.fixed_vec.specs.declared.vector.V2.{V2}
 use Rattle.fixed_vec.specs.HalfPlane.{Plane}
 use Rattle.fixed_vec.specs.Point.{Rational, IsPoint, IsIn, whole}
 use Rattle.planar_line.specs.Border.{IsOnBorder, toward}
-use Rattle.planar_line.proofs.Toward.{weak, product_pos, turned}
+use Rattle.planar_line.proofs.Toward.{weak, turned}
 use Rattle.planar_line.proofs.Border.{height, in-border}
 
 -- a point between v and o
@@ -16,7 +17,7 @@ between α β v o = record { x = β *ℤ v.x +ℤ α *ℤ o.x; y = β *ℤ v.y +
 
 pub between-point : (α β : ℤ) (v o : Rational) → pos 0 ≤ℤ α → pos 0 <ℤ β → IsPoint v → IsPoint o → IsPoint (between α β v o)
 between-point α β v o hα hβ hv ho =
-    let first = product_pos β v.q hβ hv in
+    let first = product_positive β v.q hβ hv in
     let second = product_nonneg α o.q hα (weak o.q ho) in
     omega (arith, ints)
 

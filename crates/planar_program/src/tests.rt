@@ -2,7 +2,7 @@
 ghost use Rattle.std.specs.Prelude.{◌≡◌, ◌^◌, ◌<◌, ◌≤◌};
 ghost use Rattle.fixed_vec.specs.HalfPlane.{FitsPlane};
 ghost use Rattle.planar_line.specs.Border.{IsPreference};
-ghost use Rattle.planar_line.specs.Relief.{HasRoom};
+ghost use Rattle.planar_line.specs.Relief.{HasReliefRoom};
 
 use crate::{GREATEST_RELIEF, Relief, least_relief, meets, nearest};
 use fixed_vec::{HalfPlane, Point, V2};
@@ -19,8 +19,8 @@ fn plane(x: i64, y: i64, c: i128) -> HalfPlane
 
 // The nearest point of two half-planes.
 fn best_of(first: HalfPlane, second: HalfPlane, hard: usize, relief: u32, pref: V2) -> Option<Point>
-    requires first { HasRoom first }
-    requires second { HasRoom second }
+    requires first { HasReliefRoom first }
+    requires second { HasReliefRoom second }
     requires hard { hard ≤ 2 }
     requires relief { relief < 2 ^ 18 }
     requires pref { IsPreference pref }
@@ -30,8 +30,8 @@ fn best_of(first: HalfPlane, second: HalfPlane, hard: usize, relief: u32, pref: 
 
 // Whether the whole point is in both half-planes.
 fn both_have(first: HalfPlane, second: HalfPlane, hard: usize, relief: u32, at: V2) -> bool
-    requires first { HasRoom first }
-    requires second { HasRoom second }
+    requires first { HasReliefRoom first }
+    requires second { HasReliefRoom second }
     requires hard { hard ≤ 2 }
     requires relief { relief < 2 ^ 18 }
     requires at { IsPreference at }
@@ -48,8 +48,8 @@ fn least_of(
     hard: usize,
     pref: V2,
 ) -> Option<Relief>
-    requires first { HasRoom first }
-    requires second { HasRoom second }
+    requires first { HasReliefRoom first }
+    requires second { HasReliefRoom second }
     requires hard { hard ≤ 2 }
     requires pref { IsPreference pref }
 {
@@ -61,8 +61,8 @@ fn least_of(
 
 // The least relief where both half-planes are hard.
 fn least_of_hard(first: HalfPlane, second: HalfPlane, pref: V2) -> Option<Relief>
-    requires first { HasRoom first }
-    requires second { HasRoom second }
+    requires first { HasReliefRoom first }
+    requires second { HasReliefRoom second }
     requires pref { IsPreference pref }
 {
     least_relief(&[first, second], 2, pref)

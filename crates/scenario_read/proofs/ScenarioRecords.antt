@@ -6,8 +6,8 @@ use Rattle.scenario_read.specs.declared.cause.Cause.{Cause}
 use Rattle.scenario_read.specs.declared.cause.ScenarioFault.{ScenarioFault}
 use Rattle.scenario_read.specs.declared.cause.ScenarioFault.TheVariants.{NoMemory, NotBuilt, At}
 use Rattle.scenario_read.specs.Records.{Record}
-use Rattle.scenario_read.specs.Reading.{AllClear, HasCause, IsAccepted, Tells, has_unbuilt, outcome}
-use Rattle.scenario_read.specs.Told.{Ends, EndsOnSegment, unbuilt_at, unbuilt_from}
+use Rattle.scenario_read.specs.Reading.{AllClear, IsRefusedFor, IsAccepted, Tells, has_unbuilt, outcome}
+use Rattle.scenario_read.specs.Told.{AnswersEnd, EndsOnSegment, unbuilt_at, unbuilt_from}
 
 pub unbuilt_none : (k : ℕ) → unbuilt_from k [] ≡ false
 unbuilt_none zero = refl
@@ -31,12 +31,12 @@ module _ (rows : List Record) (count : ℕ) (count_is : count ≡ length rows) (
   pub accepted_at_end : (scenario : Parts) → (last ≡ Ok scenario) × AllClear scenario.agents scenario.segments → IsAccepted rows scenario
   accepted_at_end scenario h = record { built = built; read = sym same ∙ h.0; clear = h.1 }
 
-  by_cause : (index : ℕ) (cause : Cause) → (last ≡ Err (index, cause)) ⊎ EndsOnSegment last count index cause → HasCause rows index cause
+  by_cause : (index : ℕ) (cause : Cause) → (last ≡ Err (index, cause)) ⊎ EndsOnSegment last count index cause → IsRefusedFor rows index cause
   by_cause index cause (inl e) = inl (sym same ∙ e)
   by_cause index cause (inr h) =
       inr (record { scenario = h.scenario; who = h.who; which = h.which; read = sym same ∙ h.read; on = h.on; index_is = h.index_is ∙ count_is; cause_is = h.cause_is })
 
-  pub told_at_end : (fault : ScenarioFault) → Ends last count fault → Tells rows fault
+  pub told_at_end : (fault : ScenarioFault) → AnswersEnd last count fault → Tells rows fault
   told_at_end NoMemory h = absurd h
   told_at_end NotBuilt h = absurd h
   told_at_end (At index cause) h = (built, by_cause index cause h)
@@ -45,6 +45,6 @@ module _ (rows : List Record) (count : ℕ) (count_is : count ≡ length rows) (
   accepted_result (Ok s) h = accepted_at_end s h
   accepted_result (Err e) h = tt
 
-  pub refused_result : (r : Result Parts ScenarioFault) → IfErr r (Ends last count) → IfErr r (Tells rows)
+  pub refused_result : (r : Result Parts ScenarioFault) → IfErr r (AnswersEnd last count) → IfErr r (Tells rows)
   refused_result (Ok s) h = tt
   refused_result (Err e) h = told_at_end e h

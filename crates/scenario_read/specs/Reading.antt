@@ -194,11 +194,11 @@ pub record IsOnSegment (rows : List Record) (index : ℕ) (cause : Cause) : Type
   pub cause_is : cause ≡ AgentOnSegment who which
 
 -- records are refused with the first cause that holds, and its number
-abbrev pub HasCause : List Record → ℕ → Cause → Type 0
-HasCause rows index cause = (outcome rows ≡ Err (index, cause)) ⊎ IsOnSegment rows index cause
+abbrev pub IsRefusedFor : List Record → ℕ → Cause → Type 0
+IsRefusedFor rows index cause = (outcome rows ≡ Err (index, cause)) ⊎ IsOnSegment rows index cause
 
 -- what a fault says of the records
 abbrev pub Tells : List Record → ScenarioFault → Type 0
 Tells rows NoMemory = Unit {0}
 Tells rows NotBuilt = has_unbuilt rows ≡ true
-Tells rows (At index cause) = (has_unbuilt rows ≡ false) × HasCause rows index cause
+Tells rows (At index cause) = (has_unbuilt rows ≡ false) × IsRefusedFor rows index cause

@@ -37,7 +37,7 @@ pub record EndsOnSegment (outcome : Result Parts (ℕ × Cause)) (count index : 
   pub cause_is : cause ≡ AgentOnSegment who which
 
 -- what a fault at the end of the records says
-abbrev pub Ends : Result Parts (ℕ × Cause) → ℕ → ScenarioFault → Type 0
-Ends outcome count NoMemory = ⊥
-Ends outcome count NotBuilt = ⊥
-Ends outcome count (At index cause) = (outcome ≡ Err (index, cause)) ⊎ EndsOnSegment outcome count index cause
+abbrev pub AnswersEnd : Result Parts (ℕ × Cause) → ℕ → ScenarioFault → Type 0
+AnswersEnd outcome count NoMemory = ⊥
+AnswersEnd outcome count NotBuilt = ⊥
+AnswersEnd outcome count (At index cause) = (outcome ≡ Err (index, cause)) ⊎ EndsOnSegment outcome count index cause

@@ -5,7 +5,7 @@ ghost use Rattle.csv.specs.Reading.{error_kind, stops_reader};
 ghost use Rattle.scenario_read.specs.Records.{Rows, records_of};
 ghost use Rattle.scenario_read.specs.Reading.{AllClear, IsAccepted, Tells, ended, is_unbuilt, numbered};
 ghost use Rattle.scenario_read.specs.Taking.{read_of};
-ghost use Rattle.scenario_read.specs.Told.{Ends, told, unbuilt_at};
+ghost use Rattle.scenario_read.specs.Told.{AnswersEnd, told, unbuilt_at};
 ghost use Rattle.scenario_read.specs.declared.cause.ScenarioFault.TheVariants.{NoMemory as WantsMemory};
 
 use crate::cause::{Cause, ScenarioFault};
@@ -68,7 +68,7 @@ fn take_next(
 #[tactic(auto, unfolding(crate::specs::Reading::ended))]
 fn finish(alloc: Global, reading: Reading, count: u32) -> Result<Scenario, ScenarioFault>
     ensures accepted { IfOk result (λ s. (numbered count (ended (read_of reading)) ≡ Ok s) × AllClear s.agents s.segments) }
-    ensures refused { IfErr result (Ends (numbered count (ended (read_of reading))) count) }
+    ensures refused { IfErr result (AnswersEnd (numbered count (ended (read_of reading))) count) }
 {
     if !reading.begun {
         return Err(ScenarioFault::At {
@@ -105,7 +105,7 @@ fn end(
     count: u32,
 ) -> Result<Scenario, ScenarioFault>
     ensures accepted { IfOk result (λ s. (told (read_of reading) refusal count [] ≡ Ok s) × AllClear s.agents s.segments) }
-    ensures refused { IfErr result (Ends (told (read_of reading) refusal count []) count) }
+    ensures refused { IfErr result (AnswersEnd (told (read_of reading) refusal count []) count) }
 {
     match refusal {
         Some(first) => Err(ScenarioFault::At {

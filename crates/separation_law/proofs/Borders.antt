@@ -6,9 +6,10 @@ use Rattle.exact_algebra.proofs.Ring.{quotes, equal, shown}
 use Rattle.exact_algebra.proofs.Order.{square_nonneg, product_nonneg, sum_nonneg, gap_nonneg, product-le, cancel}
 use Rattle.exact_algebra.proofs.Cauchy.{along_le}
 use Rattle.exact_algebra.proofs.Rounding.{ceil_ge}
+use Rattle.exact_algebra.proofs.Sizes.{product_positive}
 use Rattle.fixed_vec.specs.declared.vector.V2.{V2}
 use Rattle.fixed_vec.specs.Vector.{dot, minus, perp, square, times}
-use Rattle.separation_law.proofs.Ways.{IsHeldOff, StaysOutside, times_positive, way_held}
+use Rattle.separation_law.proofs.Ways.{IsHeldOff, StaysOutside, way_held}
 
 -- the normal of a leg of length l, of either sign
 abbrev pub leg : V2 → ℤ → ℤ → V2
@@ -52,8 +53,8 @@ normal_nonzero n p h = by_lt_z (pos 0) (square n) (λ some. some) (λ none.
 pub leg_way : (p v : V2) (R l t : ℤ) → pos 0 <ℤ R → (R *ℤ R) ≤ℤ square p → (l *ℤ l +ℤ R *ℤ R) ≤ℤ square p → pos 0 ≤ℤ t → pos 0 ≤ℤ dot (leg p R l) v → StaysOutside p (times t v) R
 leg_way p v R l t hR apart short ht along =
     let held = leg_held p R l (omega (arith, ints)) short in
-    let RR = times_positive R R hR hR in
-    let Rp = times_positive R (square p) hR (omega (arith, ints)) in
+    let RR = product_positive R R hR hR in
+    let Rp = product_positive R (square p) hR (omega (arith, ints)) in
     let e : dot (leg p R l) p ≡ neg_ℤ (R *ℤ square p) = equal (p.x ∷ p.y ∷ R ∷ l ∷ []) (search quotes depth 60 fits 80000) tt in
     way_held (leg p R l) p (times t v) R (normal_nonzero (leg p R l) p (omega (arith, ints))) held (held_onward (leg p R l) p v R t held ht along)
 

@@ -4,31 +4,21 @@ use Rattle.std.proofs.lemmas.Int.{ints, by_lt_z}
 use Rattle.exact_algebra.proofs.Ring.{quotes, equal, shown}
 use Rattle.exact_algebra.proofs.Order.{square_nonneg, product_nonneg, sum_nonneg, gap_nonneg}
 use Rattle.exact_algebra.proofs.Cauchy.{along_le}
+use Rattle.exact_algebra.proofs.Sizes.{whole_root_le}
 use Rattle.fixed_vec.specs.declared.vector.V2.{V2}
 use Rattle.fixed_vec.specs.Vector.{dot, minus, opposite, plus, square, times}
+use Rattle.fixed_vec.proofs.Squares.{square-opposite, square_some}
 use Rattle.crowd_data.specs.declared.pair.Place.{Place}
 use Rattle.crowd_data.specs.Neighbours.{IsNear}
 use Rattle.crowd_data.specs.Safety.{ApartThroughout}
 use Rattle.separation_law.proofs.Ways.{StaysOutside, apart_throughout}
 
--- from squares to the numbers
-root_le : (a b : ℤ) → pos 0 ≤ℤ b → (a *ℤ a) ≤ℤ (b *ℤ b) → a ≤ℤ b
-root_le a b h k = by_lt_z b a
-    (λ less.
-    let z : pos 0 ≤ℤ ((a -ℤ b -ℤ pos 1) *ℤ (a +ℤ b +ℤ pos 1)) = product_nonneg (a -ℤ b -ℤ pos 1) (a +ℤ b +ℤ pos 1) (omega (arith, ints)) (omega (arith, ints)) in
-    let e : (a -ℤ b -ℤ pos 1) *ℤ (a +ℤ b +ℤ pos 1) ≡ a *ℤ a -ℤ b *ℤ b -ℤ pos 2 *ℤ b -ℤ pos 1 = equal (a ∷ b ∷ []) (search quotes depth 30) tt in
-    omega (arith, ints))
-    (λ l. l)
-
-square_nonneg_of : (u : V2) → pos 0 ≤ℤ square u
-square_nonneg_of u = sum_nonneg _ _ (square_nonneg u.x) (square_nonneg u.y)
-
 -- Cauchy's inequality, with bounds of the lengths
 pub dot_le : (u v : V2) (a b : ℤ) → pos 0 ≤ℤ a → pos 0 ≤ℤ b → square u ≤ℤ (a *ℤ a) → square v ≤ℤ (b *ℤ b) → dot u v ≤ℤ (a *ℤ b)
-dot_le u v a b ha hb h k = root_le _ (a *ℤ b) (product_nonneg a b ha hb)
+dot_le u v a b ha hb h k = whole_root_le _ (a *ℤ b) (product_nonneg a b ha hb)
     (shown (u.x ∷ u.y ∷ v.x ∷ v.y ∷ a ∷ b ∷ [])
     (sum_nonneg _ _ (gap_nonneg _ _ (along_le u.x u.y v.x v.y))
-    (sum_nonneg _ _ (product_nonneg _ _ (gap_nonneg _ _ h) (square_nonneg_of v)) (product_nonneg _ _ (gap_nonneg _ _ k) (square_nonneg a))))
+    (sum_nonneg _ _ (product_nonneg _ _ (gap_nonneg _ _ h) (square_some v)) (product_nonneg _ _ (gap_nonneg _ _ k) (square_nonneg a))))
     (search quotes depth 40 fits 20000) tt)
 
 -- the triangle inequality, with bounds of the lengths
@@ -60,12 +50,9 @@ far_way p v R s hR hs far slow k m hk hm = by_lt_z _ _
     (search quotes depth 40 fits 20000) tt in
     let least : (m *ℤ m *ℤ (R *ℤ R)) ≤ℤ pos 0 =
     shown (m ∷ R ∷ []) (product_nonneg (pos 0 -ℤ m *ℤ m) (R *ℤ R) (gap_nonneg _ _ none) (square_nonneg R)) (search quotes depth 30) tt in
-    let squares = square_nonneg_of a in
+    let squares = square_some a in
     absurd (omega (arith, ints)))
     (λ l. l)
-
-turned_round : (v : V2) → square (opposite v) ≡ square v
-turned_round v = equal (v.x ∷ v.y ∷ []) (search quotes depth 30) tt
 
 -- the law of far pairs
 pub far_apart : (a b : Place) (a_vel b_vel : V2) → ¬ IsNear a b → square a_vel ≤ℤ pos (a.speed * a.speed) → square b_vel ≤ℤ pos (b.speed * b.speed)
@@ -73,9 +60,9 @@ pub far_apart : (a b : Place) (a_vel b_vel : V2) → ¬ IsNear a b → square a_
 far_apart a b a_vel b_vel apart a_slow b_slow =
     let p = minus b.pos a.pos in
     let turn : square (minus a.pos b.pos) ≡ square p = equal (a.pos.x ∷ a.pos.y ∷ b.pos.x ∷ b.pos.y ∷ []) (search quotes depth 40 fits 20000) tt in
-    let back : square (opposite b_vel) ≤ℤ pos (b.speed * b.speed) = subst (λ z. z ≤ℤ pos (b.speed * b.speed)) (sym (turned_round b_vel)) b_slow in
+    let back : square (opposite b_vel) ≤ℤ pos (b.speed * b.speed) = subst (λ z. z ≤ℤ pos (b.speed * b.speed)) (sym (square-opposite b_vel)) b_slow in
     let slow = sum_le a_vel (opposite b_vel) (pos a.speed) (pos b.speed) (omega (arith, ints)) (omega (arith, ints)) a_slow back in
     let gap : ((pos (a.radius + b.radius) +ℤ pos (a.speed + b.speed)) *ℤ (pos (a.radius + b.radius) +ℤ pos (a.speed + b.speed))) <ℤ square p =
-    omega (arith, ints, apart, square_nonneg_of (minus a.pos b.pos)) in
+    omega (arith, ints, apart, square_some (minus a.pos b.pos)) in
     apart_throughout a.pos a_vel b.pos b_vel (pos (a.radius + b.radius))
     (far_way p (minus a_vel b_vel) (pos (a.radius + b.radius)) (pos (a.speed + b.speed)) (omega (arith, ints)) (omega (arith, ints)) gap slow)

@@ -4,11 +4,12 @@ use Rattle.std.proofs.lemmas.Int.{ints}
 use Rattle.exact_algebra.specs.Numbers.{ceil}
 use Rattle.exact_algebra.proofs.Ring.{quotes, equal, shown}
 use Rattle.exact_algebra.proofs.Order.{square_nonneg, product_nonneg, sum_nonneg, gap_nonneg, cancel}
+use Rattle.exact_algebra.proofs.Sizes.{product_positive}
 use Rattle.fixed_vec.specs.declared.vector.V2.{V2}
 use Rattle.fixed_vec.specs.Vector.{dot, minus, opposite, plus, square, times, zero_vector}
 use Rattle.separation_law.proofs.Borders.{arc_onward}
 use Rattle.separation_law.proofs.FarPairs.{dot_le}
-use Rattle.separation_law.proofs.Ways.{IsHeldOff, times_positive, way_held}
+use Rattle.separation_law.proofs.Ways.{IsHeldOff, way_held}
 
 -- after the fraction k/m of the way v, the point j/i of the segment is at least R off
 abbrev pub IsOffAt : V2 → V2 → V2 → ℤ → ℤ → ℤ → ℤ → ℤ → Type 0
@@ -96,5 +97,5 @@ rest_off p d R t k m j i clear =
 -- one step is a part of t steps
 pub slower_off : (p d v : V2) (R t k m j i : ℤ) → pos 0 <ℤ t → IsOffAt p d (times t v) R k (m *ℤ t) j i → IsOffAt p d v R k m j i
 slower_off p d v R t k m j i ht off =
-    cancel _ _ (t *ℤ t) (times_positive t t ht ht)
+    cancel _ _ (t *ℤ t) (product_positive t t ht ht)
     (shown (p.x ∷ p.y ∷ d.x ∷ d.y ∷ v.x ∷ v.y ∷ R ∷ t ∷ k ∷ m ∷ j ∷ i ∷ []) (gap_nonneg _ _ off) (search quotes depth 60 fits 80000) tt)

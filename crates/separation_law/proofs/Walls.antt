@@ -1,9 +1,10 @@
--- A disc that is clear of a segment stays off it with a velocity that heeds the segment.
+-- A disc that is clear of a segment stays off it with a velocity that respects the segment.
 use Rattle.std.proofs.Common.{◌≡◌, ⊎_elim, refl, sym, subst, ◌≤◌, Bool, true, false, ◌&&◌, [], ◌∷◌, arith, ℤ, pos, negsuc, ◌+ℤ◌, ◌-ℤ◌, ◌*ℤ◌, ◌≤ℤ◌, ◌<ℤ◌, int_le}
 use Rattle.std.specs.Int.{int_min, int_max}
 use Rattle.std.proofs.lemmas.Int.{ints, clamps, by_lt_z}
 use Rattle.exact_algebra.proofs.Ring.{quotes, equal, shown}
 use Rattle.exact_algebra.proofs.Order.{product_nonneg, gap_nonneg}
+use Rattle.exact_algebra.proofs.Sizes.{product_positive}
 use Rattle.fixed_vec.specs.declared.vector.V2.{V2}
 use Rattle.fixed_vec.specs.Vector.{cross, dot, minus, opposite, perp, square, zero_vector}
 use Rattle.fixed_vec.specs.HalfPlane.{Plane, whole_length}
@@ -14,10 +15,9 @@ use Rattle.crowd_data.specs.Safety.{OffThroughout}
 use Rattle.crowd_data.specs.Walls.{IsClear, in_reach, normal_beside, plane_from, reach_of, wall_plane}
 use Rattle.crowd_data.proofs.ClearOfSegment.{beside_is, clear_end, clear_start, square_some}
 use Rattle.crowd_data.proofs.WallCases.{normal_elim, wall_elim}
-use Rattle.separation_law.specs.Heeding.{Heeds, StaysOffFor}
+use Rattle.separation_law.specs.Respecting.{Respects, StaysOffFor}
 use Rattle.separation_law.proofs.Pairs.{length_reaches}
 use Rattle.separation_law.proofs.WallWays.{IsBorder, border_off, reach_off, rest_off, slower_off}
-use Rattle.separation_law.proofs.Ways.{times_positive}
 
 -- ---- the borders of the three cases
 
@@ -142,17 +142,17 @@ module _ (at : V2) (agent : Agent) (s : Segment) (v : V2) (some_radius : 1 ≤ a
       rest_off (minus at s.a) (minus s.b s.a) (pos agent.radius) (pos agent.wall_horizon) k m j i (clear j i hj hi hi0)
 
   -- the law
-  pub stays_off_for : IsClear at agent.radius s → Heeds at agent s v → StaysOffFor at agent s v
-  stays_off_for clear heeds = ⊎_elim
+  pub stays_off_for : IsClear at agent.radius s → Respects at agent s v → StaysOffFor at agent s v
+  stays_off_for clear respects = ⊎_elim
       (λ h. wall_off clear h.1)
       (λ h. ⊎_elim (λ h. out_off h.0 h.1) (λ still. subst (StaysOffFor at agent s) (sym still) (still_off clear)) h)
-      heeds
+      respects
 
   -- and for the one step
-  pub stays_off : IsClear at agent.radius s → Heeds at agent s v → OffThroughout at v agent.radius s
-  stays_off clear heeds k m j i hk hm hm0 hj hi hi0 =
+  pub stays_off : IsClear at agent.radius s → Respects at agent s v → OffThroughout at v agent.radius s
+  stays_off clear respects k m j i hk hm hm0 hj hi hi0 =
       let t : ℤ = pos agent.wall_horizon in
       let more : pos 0 ≤ℤ (m *ℤ (t -ℤ pos 1)) = product_nonneg m (t -ℤ pos 1) (omega (arith, ints)) (omega (arith, ints)) in
       let e : m *ℤ (t -ℤ pos 1) ≡ m *ℤ t -ℤ m = equal (m ∷ t ∷ []) (search quotes depth 30) tt in
       slower_off (minus at s.a) (minus s.b s.a) v (pos agent.radius) t k m j i (omega (arith, ints))
-      (stays_off_for clear heeds k (m *ℤ t) j i hk (omega (arith, ints)) (times_positive m t hm0 (omega (arith, ints))) hj hi hi0)
+      (stays_off_for clear respects k (m *ℤ t) j i hk (omega (arith, ints)) (product_positive m t hm0 (omega (arith, ints))) hj hi hi0)

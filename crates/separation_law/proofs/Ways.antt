@@ -4,6 +4,7 @@ use Rattle.std.proofs.lemmas.Int.{ints}
 use Rattle.exact_algebra.proofs.Ring.{quotes, equal, shown}
 use Rattle.exact_algebra.proofs.Order.{product_nonneg, sum_nonneg, gap_nonneg, cancel}
 use Rattle.exact_algebra.proofs.Cauchy.{way_outside}
+use Rattle.exact_algebra.proofs.Sizes.{product_positive}
 use Rattle.fixed_vec.specs.declared.vector.V2.{V2}
 use Rattle.fixed_vec.specs.Vector.{dot, minus, square, times}
 use Rattle.crowd_data.specs.Safety.{ApartThroughout}
@@ -21,20 +22,13 @@ pub record IsHeldOff (n p : V2) (R : ℤ) : Type 0 where
 pub way_held : (n p v : V2) (R : ℤ) → pos 0 <ℤ square n → IsHeldOff n p R → IsHeldOff n (minus p v) R → StaysOutside p v R
 way_held n p v R some start end k m hk hm = way_outside n.x n.y p.x p.y v.x v.y R k m some start.against start.far end.against end.far hk hm
 
-pub times_positive : (a b : ℤ) → pos 0 <ℤ a → pos 0 <ℤ b → pos 0 <ℤ (a *ℤ b)
-times_positive a b ha hb =
-    let least : pos 1 ≤ℤ (a *ℤ b) = shown (a ∷ b ∷ [])
-    (sum_nonneg _ _ (product_nonneg (a -ℤ pos 1) (b -ℤ pos 1) (omega (arith, ints)) (omega (arith, ints))) (sum_nonneg (a -ℤ pos 1) (b -ℤ pos 1) (omega (arith, ints)) (omega (arith, ints))))
-    (search quotes depth 40) tt in
-    omega (arith, ints)
-
 -- one step is a part of t steps
 pub part_of_way : (p v : V2) (R t : ℤ) → pos 0 <ℤ t → StaysOutside p (times t v) R → StaysOutside p v R
 part_of_way p v R t ht way k m hk hm =
     let m0 : pos 0 ≤ℤ m = omega (arith, ints) in
     let part : k ≤ℤ (m *ℤ t) = shown (k ∷ m ∷ t ∷ [])
     (sum_nonneg _ _ (gap_nonneg k m hm) (product_nonneg m (t -ℤ pos 1) m0 (omega (arith, ints)))) (search quotes depth 40) tt in
-    cancel _ _ (t *ℤ t) (times_positive t t ht ht)
+    cancel _ _ (t *ℤ t) (product_positive t t ht ht)
     (shown (p.x ∷ p.y ∷ v.x ∷ v.y ∷ R ∷ t ∷ k ∷ m ∷ []) (gap_nonneg _ _ (way k (m *ℤ t) hk part)) (search quotes depth 60 fits 80000) tt)
 
 -- the other way round, a difference changes its sign

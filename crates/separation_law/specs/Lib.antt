@@ -1,1 +1,1 @@
-pub mod Heeding
+pub mod Respecting

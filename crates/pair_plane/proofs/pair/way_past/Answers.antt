@@ -4,10 +4,10 @@ use Rattle.pair_plane.proofs.pair.way_past.Goals as goal
 
 pub overflow_sub-result : goal.overflow_sub-result
 overflow_sub-result c =
-    fits (c.args.horizon ∷ c.args.velocity ∷ c.args.offset ∷ []) (2 ^ 12 ∷ 2 ^ 15 ∷ 2 ^ 16 ∷ []) w64
+    fits (c.args.horizon ∷ c.args.velocity ∷ c.args.relative_position ∷ []) (2 ^ 12 ∷ 2 ^ 15 ∷ 2 ^ 16 ∷ []) w64
     (omega arith, (omega arith, (omega arith, tt))) (search reads depth 40 fits 20000) tt
 
 pub returns : goal.returns
 returns c =
-    computed (c.args.horizon ∷ c.args.velocity ∷ c.args.offset ∷ []) (2 ^ 12 ∷ 2 ^ 15 ∷ 2 ^ 16 ∷ [])
+    computed (c.args.horizon ∷ c.args.velocity ∷ c.args.relative_position ∷ []) (2 ^ 12 ∷ 2 ^ 15 ∷ 2 ^ 16 ∷ [])
     (omega arith, (omega arith, (omega arith, tt))) (search reads depth 40 fits 20000) tt

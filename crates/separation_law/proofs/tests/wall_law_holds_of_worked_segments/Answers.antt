@@ -5,6 +5,6 @@ use Rattle.exact_algebra.proofs.Rounding.{ceil_root_is}
 use Rattle.separation_law.proofs.tests.wall_law_holds_of_worked_segments.Goals as goal
 
 -- the normal is as long as the wall: 4000
-pub off_segment-requires-clause-heeds : goal.off_segment-requires-clause-heeds
-off_segment-requires-clause-heeds g c =
+pub off_segment-requires-clause-respects : goal.off_segment-requires-clause-respects
+off_segment-requires-clause-respects g c =
     inl (refl, rw (ceil_root_is 16000000 4000 (omega arith) (λ j h. mul-lt j j 4000 4000 h h)) (omega (arith, ints)))

@@ -10,8 +10,8 @@ use Rattle.crowd_data.specs.Walls.{in_reach, wall_plane}
 
 -- the segment is in reach and the velocity in its wall plane, or it is out of reach and the velocity no
 -- longer than the agent's speed, or the velocity is zero
-abbrev pub Heeds : V2 → Agent → Segment → V2 → Type 0
-Heeds at agent segment vel =
+abbrev pub Respects : V2 → Agent → Segment → V2 → Type 0
+Respects at agent segment vel =
     (IsTrue (in_reach at agent segment) × IsIn (wall_plane at agent segment) (whole vel))
     ⊎ (((in_reach at agent segment ≡ false) × (square vel ≤ℤ (pos agent.speed *ℤ pos agent.speed))) ⊎ (vel ≡ zero_vector))
 

@@ -1,7 +1,7 @@
 use Rattle.std.proofs.Common.{◌-ℤ◌, FitsSigned, to_z-of_z, w64, arith, rules}
 use Rattle.std.proofs.lemmas.Int.{ints}
 use Rattle.pair_plane.proofs.Sizes.{offset_small}
-use Rattle.pair_plane.proofs.pair.Pair.offset.Goals as goal
+use Rattle.pair_plane.proofs.pair.Pair.relative_position.Goals as goal
 
 pub returns-clause-value : goal.returns-clause-value
 returns-clause-value c =
