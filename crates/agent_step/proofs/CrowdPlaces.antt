@@ -12,7 +12,7 @@ use Rattle.crowd_data.specs.Limits.{IsAgent}
 use Rattle.crowd_data.specs.Neighbours.{nowhere}
 use Rattle.crowd_data.specs.RingPlanes.{ring_planes}
 use Rattle.crowd_data.specs.Run.{body_at, crowd_of, standing}
-use Rattle.body_law.proofs.Crowds.{agent_at-crowd_of}
+use Rattle.crowd_data.proofs.Crowds.{agent_at-crowd_of}
 use Rattle.agent_kdtree.specs.Placed.{IsPlaced}
 
 pub length-crowd_of : (agents : List Agent) (bodies : List Body) → length bodies ≡ length agents → length (crowd_of agents bodies) ≡ length agents

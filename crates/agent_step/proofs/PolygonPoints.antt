@@ -13,7 +13,7 @@ use Rattle.crowd_data.specs.Limits.{IsVelocity}
 use Rattle.crowd_data.specs.RingPlanes.{ring_planes, ring_planes_of, ring_points}
 use Rattle.hard_plane.proofs.RingPoints.{ring_planes_of-plain}
 use Rattle.exact_algebra.proofs.Sizes.{square_abs, root_le}
-use Rattle.body_law.proofs.Lists.{front_of}
+use Rattle.exact_algebra.proofs.Elements.{front_of}
 
 -- what is in all half-planes, some of them relieved, is in the hard ones
 pub meets_hard : (planes : List Plane) (hard relief : ℕ) (p : Rational) → Meeting (relieved_after hard relief planes) p → Meeting (take hard planes) p

@@ -14,7 +14,7 @@ use Rattle.planar_program.specs.Met.{IsMet}
 use Rattle.hard_plane.proofs.RingPoints.{ring_planes_of-plain}
 use Rattle.hard_plane.proofs.ShortPoint.{IsShort}
 use Rattle.hard_plane.proofs.SpeedPolygon.{ring_short}
-use Rattle.body_law.proofs.Lists.{front_of}
+use Rattle.exact_algebra.proofs.Elements.{front_of}
 use Rattle.pair_plane.proofs.Lengths.{length_reaches}
 use Rattle.pair_plane.proofs.Sized.{Sized, fits_sized, relieved_sized}
 

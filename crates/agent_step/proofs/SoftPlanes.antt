@@ -15,7 +15,7 @@ use Rattle.crowd_data.specs.Limits.{IsBuild, IsVelocity}
 use Rattle.crowd_data.specs.Neighbours.{squared_gap}
 use Rattle.crowd_data.specs.Pairs.{IsPair, higher_share, lower_share}
 use Rattle.crowd_data.specs.Run.{body_at, crowd_of, no_body, standing}
-use Rattle.body_law.proofs.Crowds.{agent_at-crowd_of}
+use Rattle.crowd_data.proofs.Crowds.{agent_at-crowd_of}
 use Rattle.pair_plane.proofs.Shares.{higher_sized, lower_sized}
 use Rattle.pair_plane.proofs.Sized.{Sized, drawn_sized}
 use Rattle.agent_step.specs.Sight.{ArePresent, IsSeen}

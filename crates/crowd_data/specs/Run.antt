@@ -1,11 +1,13 @@
 -- Frames: the first one, the next one, and the run of a scenario.
 use Rattle.std.specs.Prelude.{◌≡◌, ℕ, zero, suc, ◌+◌, ◌<◌, ◌==◌, if◌then◌else◌, List, [], ◌∷◌, map, length, slice_index_or}
+use Rattle.fixed_vec.specs.declared.vector.V2.{V2}
 use Rattle.fixed_vec.specs.Vector.{plus, zero_vector}
 use Rattle.crowd_data.specs.declared.agent.Agent.{Agent}
 use Rattle.crowd_data.specs.declared.post.Post.{Post}
 use Rattle.crowd_data.specs.declared.post.ScriptPost.{ScriptPost}
 use Rattle.crowd_data.specs.declared.frame.Body.{Body}
 use Rattle.crowd_data.specs.declared.frame.Frame.{Frame}
+use Rattle.crowd_data.specs.declared.frame.Mark.{Mark}
 use Rattle.crowd_data.specs.declared.frame.Mark.TheVariants.{Start}
 use Rattle.crowd_data.specs.Scenario.{Parts}
 use Rattle.crowd_data.specs.Advice.{IsAdvice}
@@ -57,6 +59,10 @@ no_body = record { agent = 0; pos = zero_vector; vel = zero_vector; pref = zero_
 
 abbrev pub body_at : List Body → ℕ → Body
 body_at bodies who = slice_index_or bodies who no_body
+
+-- a body that takes a velocity, a mark and a relief, and moves by the velocity
+abbrev pub moved_body : V2 → Mark → ℕ → Body → Body
+moved_body vel mark relief body = record body { pos = plus body.pos vel; vel = vel; mark = mark; relief = relief }
 
 -- a body after a step: the velocity, mark and relief of its advice, and its position moved by the velocity
 pub record IsMoved (scenario : Parts) (crowd : List Agent) (who : ℕ) (before after : Body) : Type 0 where

@@ -91,8 +91,14 @@ EachStep P [] = Unit {0}
 EachStep P (frame ∷ []) = Unit {0}
 EachStep P (frame ∷ next ∷ rest) = P frame next × EachStep P (next ∷ rest)
 
--- a run in which no disc cuts a segment and no velocity is longer than its agent's speed
-pub record KeepsOffWalls (scenario : Parts) (frames : List Snapshot) : Type 0 where
+-- a safe step: no disc cuts a segment, no velocity is longer than its agent's speed, and discs keep apart
+pub record IsSafeStep (scenario : Parts) (frame next : Snapshot) : Type 0 where
+  pub clear : ClearFrame scenario next
+  pub off : StaysOff scenario frame next
+  pub speed : KeepsSpeed scenario next
+  pub apart : PairsKeepApart scenario frame next
+
+-- a safe run: every body of every frame is clear of every segment, and each step is safe
+pub record IsSafeRun (scenario : Parts) (frames : List Snapshot) : Type 0 where
   pub clear : All (ClearFrame scenario) frames
-  pub off : EachStep (StaysOff scenario) frames
-  pub speed : EachStep (λ frame next. KeepsSpeed scenario next) frames
+  pub steps : EachStep (IsSafeStep scenario) frames

@@ -1,8 +1,4 @@
+mod TakenPosts
 mod MovedBodies
-mod FirstNumber
-mod SomeRelief
-mod SomeMark
-mod SoftNormals
-mod SomeAdvice
-pub mod NextFrame
 mod Present
+mod Stepping

@@ -1,15 +1,21 @@
 // The stepper.
-ghost use Rattle.std.specs.Prelude.{◌≡◌, ◌<◌, [], IfOk};
+ghost use Rattle.std.specs.Prelude.{◌≡◌, ◌<◌, ◌≤◌, All, IfOk, length};
+ghost use Rattle.crowd_data.specs.Limits.{IsPost};
+ghost use Rattle.crowd_data.specs.Present.{IsPresent};
 ghost use Rattle.crowd_data.specs.Run.{IsNext, snapshot_of, start_of};
+ghost use Rattle.crowd_data.specs.SafeSteps.{IsSafeStep};
 ghost use Rattle.crowd_data.specs.Scenario.{IsValid};
-ghost use Rattle.frame_step.specs.Present.{Course, IsPresent, IsReady};
+ghost use Rattle.frame_step.specs.Present.{Course, IsReady};
 
-use crate::moves::advance;
+use crate::moves::move_range;
 use crate::places::place_all;
+use crate::posts::take_all;
 use agent_kdtree::Tree;
 use agent_step::{Polygons, Scratch};
-use crowd_data::{Body, Frame, Place, Scenario, first_frame};
+use crowd_data::{Body, Frame, Place, Post, Scenario, first_frame};
 use fixed_vec::{List, NoMemory};
+use outside_io::{Gate, OpenGate};
+use run_law::every_step_is_safe;
 use std::alloc::Global;
 use std::marker::Model;
 use std::mem::swap;
@@ -35,11 +41,16 @@ impl Model for Stepper {
 }
 
 impl Stepper {
-    /// The run of a scenario at its frame 0. `NoMemory` is answered for want of memory alone.
-    pub fn open(alloc: Global, scenario: Scenario) -> Result<Stepper, NoMemory>
+    /// The run of a scenario at its frame 0, for 1 to 64 workers; today one works, whatever their number. It
+    /// takes all memory that the steps need; `NoMemory` is answered where memory runs out (documented, not
+    /// proved).
+    pub fn open(alloc: Global, scenario: Scenario, workers: u32) -> Result<Stepper, NoMemory>
+        requires some_workers { 1 ≤ workers }
+        requires workers { workers ≤ 64 }
         ensures scenario { IfOk result (λ s. s.scenario ≡ scenario) }
         ensures frame { IfOk result (λ s. s.frame ≡ start_of scenario) }
     {
+        let _workers = workers;
         let agents = scenario.agents().len();
         let polygons = Polygons::open(alloc, scenario.agents())?;
         let scratch = Scratch::open(alloc, scenario.segments().len())?;
@@ -77,29 +88,53 @@ impl Stepper {
         &self.scenario
     }
 
-    /// Makes the next frame the present one: each agent's advice is taken from the frame as it was, and
-    /// each body moves by its advice. There must be a step left. It takes no memory.
-    pub fn step(&mut self)
-        requires { self.old.frame.number < self.old.scenario.steps }
+    /// Makes the next frame the present one: each post in order sets the preferred velocity of its agent, so
+    /// that the last one for an agent wins; each agent's advice is taken from that one frozen state; and each
+    /// body moves by its advice. Each post names an agent that exists and a velocity within its limits (each
+    /// coordinate at most 16,384 in size), and there must be a step left. It takes no memory, waits for
+    /// nobody and can't be refused.
+    ///
+    /// The step is safe: every body stays clear of every segment, and stays off it throughout the step and
+    /// its wall horizon; no velocity is longer than its agent's speed; and discs keep apart by the laws of
+    /// pairs.
+    pub fn step(&mut self, posts: &[Post])
+        requires below { self.old.frame.number < self.old.scenario.steps }
+        requires posts { All (IsPost (length self.old.scenario.agents)) posts.now }
         ensures scenario { self.new.scenario ≡ self.old.scenario }
-        ensures next { IsNext self.old.scenario self.old.frame [] self.new.frame }
+        ensures next { IsNext self.old.scenario self.old.frame posts.now self.new.frame }
+        ensures safe { IsSafeStep self.old.scenario self.old.frame self.new.frame }
     {
-        place_all(
-            &mut self.places,
-            self.scenario.agents(),
-            self.frame.bodies.items(),
-        );
+        self.step_gated(posts, &OpenGate);
+    }
+
+    /// The same step, with a gate that each worker passes before each of its pieces. As long as one worker
+    /// does all, the gate isn't asked.
+    pub fn step_gated<G: Gate + Sync>(&mut self, posts: &[Post], gate: &G)
+        requires below { self.old.frame.number < self.old.scenario.steps }
+        requires posts { All (IsPost (length self.old.scenario.agents)) posts.now }
+        ensures scenario { self.new.scenario ≡ self.old.scenario }
+        ensures next { IsNext self.old.scenario self.old.frame posts.now self.new.frame }
+        ensures safe { IsSafeStep self.old.scenario self.old.frame self.new.frame }
+    {
+        let _gate = gate;
+        take_all(&mut self.frame.bodies, posts);
+        let agents = self.scenario.agents();
+        place_all(&mut self.places, agents, self.frame.bodies.items());
         self.tree.rebuild(self.places.items());
-        advance(
+        self.next.clear();
+        move_range(
             &mut self.next,
             &self.scenario,
             &self.polygons,
             &self.frame,
             self.places.items(),
             &self.tree,
+            0,
+            agents.len(),
             &mut self.scratch,
         );
         swap(&mut self.frame.bodies, &mut self.next);
         self.frame.number += 1;
+        every_step_is_safe(&self.scenario);
     }
 }

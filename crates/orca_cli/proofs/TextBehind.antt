@@ -1,14 +1,17 @@
 -- The text of the frames behind a frame, one frame at a time, and that of a whole run.
-use Rattle.std.proofs.Common.{⊎_elim, ◌≡◌, ◌∙◌, ◌≤◌, ◌+◌, ◌-◌, ◌++◌, List, [], ◌∷◌, ℕ, zero, suc, refl, sym, ap, subst, arith, append_assoc}
+use Rattle.std.proofs.Common.{⊎_elim, ◌≡◌, ◌∙◌, ◌≤◌, ◌+◌, ◌-◌, ◌++◌, List, [], ◌∷◌, ℕ, zero, suc, length, refl, sym, ap, subst, arith, append_assoc}
 use Rattle.std.proofs.lemmas.Bool.{cases_lt}
 use Rattle.crowd_data.specs.declared.post.Post.{Post}
-use Rattle.crowd_data.specs.Run.{Follow, IsNext, Snapshot, script_of, scripted_from, scripts_from, scripts_of, start_of}
+use Rattle.crowd_data.specs.Run.{Follow, IsNext, Snapshot, script_of, scripts_from, scripts_of, start_of}
 use Rattle.crowd_data.specs.Scenario.{IsValid, Parts}
-use Rattle.body_law.proofs.WithinSpeed.{IsFull, next_full}
-use Rattle.frame_step.proofs.NextFrame.{some_next}
+use Rattle.run_law.proofs.SomeNext.{some_next}
 use Rattle.frame_text.specs.Lines.{end_line}
 use Rattle.frame_text.specs.Transcript.{IsTranscript, frame_text, frames_text, last_number, scenario_text}
 use Rattle.orca_cli.specs.Behind.{IsTextBehind}
+
+-- as many bodies as agents
+abbrev pub IsFull : Parts → Snapshot → Type 0
+IsFull scenario frame = length frame.bodies ≡ length scenario.agents
 
 module _ (scenario : Parts) where
   -- the text of so many frames behind a frame
@@ -23,40 +26,39 @@ module _ (scenario : Parts) where
       let none : 0 ≡ scenario.steps - frame.number = omega arith in
       subst (λ left. IsTextOf (frame.number + 1) left frame (end_line frame.number)) none ([], tt, refl)
 
-  module _ (unposted : scenario.posts ≡ []) where
-    no_script : (number : ℕ) → [] ≡ script_of scenario number
-    no_script number = ap (λ posts. scripted_from 0 posts number) (sym unposted)
+  -- the scripted posts of the next frame
+  abbrev pub script_after : Snapshot → List Post
+  script_after frame = script_of scenario (frame.number + 1)
 
-    -- one more frame
-    pub behind_more : (frame next : Snapshot) (text : List ℕ) → IsNext scenario frame [] next → IsTextBehind scenario next text
-        → IsTextBehind scenario frame (frame_text next [] ++ text)
-    unfolding IsTextOf
-    behind_more frame next text step (rest, follow, is) =
-        let number : next.number ≡ frame.number + 1 = step.number in
-        let left : suc (scenario.steps - next.number) ≡ scenario.steps - frame.number = omega (arith, step.below, number) in
-        let behind : IsTextOf (frame.number + 1 + 1) (scenario.steps - next.number) next text = subst (λ n. IsTextOf (n + 1) (scenario.steps - next.number) next text) number (rest, follow, is) in
-        subst (λ n. IsTextOf (frame.number + 1) n frame (frame_text next [] ++ text)) left
-        (subst (λ (posts : List Post). (more : List Snapshot) × Follow scenario frame (posts ∷ scripts_from scenario (frame.number + 1 + 1) (scenario.steps - next.number)) more
-        × (frame_text next [] ++ text ≡ frames_text (posts ∷ scripts_from scenario (frame.number + 1 + 1) (scenario.steps - next.number)) more ++ end_line (last_number (frame ∷ more))))
-        (no_script (frame.number + 1)) (
-          next ∷ behind.0,
-          (step, behind.1),
-          ap (λ t. frame_text next [] ++ t) behind.2 ∙ sym (append_assoc (frame_text next []) (frames_text (scripts_from scenario (frame.number + 1 + 1) (scenario.steps - next.number)) behind.0) (end_line (last_number (next ∷ behind.0)))),
-        ))
+  -- one more frame
+  pub behind_more : (frame next : Snapshot) (text : List ℕ) → IsNext scenario frame (script_after frame) next → IsTextBehind scenario next text
+      → IsTextBehind scenario frame (frame_text next (script_after frame) ++ text)
+  unfolding IsTextOf
+  behind_more frame next text step (rest, follow, is) =
+      let number : next.number ≡ frame.number + 1 = step.number in
+      let left : suc (scenario.steps - next.number) ≡ scenario.steps - frame.number = omega (arith, step.below, number) in
+      let behind : IsTextOf (frame.number + 1 + 1) (scenario.steps - next.number) next text = subst (λ n. IsTextOf (n + 1) (scenario.steps - next.number) next text) number (rest, follow, is) in
+      let here = frame_text next (script_after frame) in
+      let later = scripts_from scenario (frame.number + 1 + 1) (scenario.steps - next.number) in
+      subst (λ n. IsTextOf (frame.number + 1) n frame (here ++ text)) left (
+        next ∷ behind.0,
+        (step, behind.1),
+        ap (λ t. here ++ t) behind.2 ∙ sym (append_assoc here (frames_text later behind.0) (end_line (last_number (next ∷ behind.0)))),
+      )
 
-    -- there is one behind each frame that has a body for each agent
-    pub some_behind : IsValid scenario → (frame : Snapshot) → IsFull scenario frame → (text : List ℕ) × IsTextBehind scenario frame text
-    some_behind valid frame full = by (scenario.steps - frame.number) frame full (omega arith)
-      where
-        by : (left : ℕ) (frame : Snapshot) → IsFull scenario frame → scenario.steps - frame.number ≤ left → (text : List ℕ) × IsTextBehind scenario frame text
-        by zero frame full h = (end_line frame.number, behind_none frame (omega arith))
-        by (suc left) frame full h = ⊎_elim
-            (λ below.
-            let (next, step) = some_next scenario frame valid full below in
-            let (text, behind) = by left next (next_full scenario frame next [] full step) (omega (arith, step.number)) in
-            (frame_text next [] ++ text, behind_more frame next text step behind))
-            (λ over. (end_line frame.number, behind_none frame over))
-            (cases_lt frame.number scenario.steps)
+  -- there is one behind each frame that has a body for each agent
+  pub some_behind : IsValid scenario → (frame : Snapshot) → IsFull scenario frame → (text : List ℕ) × IsTextBehind scenario frame text
+  some_behind valid frame full = by (scenario.steps - frame.number) frame full (omega arith)
+    where
+      by : (left : ℕ) (frame : Snapshot) → IsFull scenario frame → scenario.steps - frame.number ≤ left → (text : List ℕ) × IsTextBehind scenario frame text
+      by zero frame full h = (end_line frame.number, behind_none frame (omega arith))
+      by (suc left) frame full h = ⊎_elim
+          (λ below.
+          let (next, step) = some_next scenario frame (script_after frame) valid full below in
+          let (text, behind) = by left next (step.bodies ∙ full) (omega (arith, step.number)) in
+          (frame_text next (script_after frame) ++ text, behind_more frame next text step behind))
+          (λ over. (end_line frame.number, behind_none frame over))
+          (cases_lt frame.number scenario.steps)
 
   -- the text of a whole run
   pub whole_text : (first : Snapshot) (text : List ℕ) → first ≡ start_of scenario → IsTextBehind scenario first text

@@ -5,13 +5,14 @@ use Rattle.std.specs.Io.KnownBytes.{Appends}
 use Rattle.std.proofs.KnownBytes.{Appends-nil, Appends-trans}
 use Rattle.outside_io.specs.Causes.{AppendsPrefix, Wrote}
 use Rattle.outside_io.proofs.WroteLemmas.{prefix_longer, prefix_then, wrote_then}
+use Rattle.crowd_data.specs.declared.post.Post.{Post}
 use Rattle.crowd_data.specs.Run.{IsNext, Snapshot, scripts_of, start_of}
 use Rattle.crowd_data.specs.Scenario.{IsValid, Parts}
-use Rattle.body_law.proofs.WithinSpeed.{IsFull, start_full}
+use Rattle.crowd_data.proofs.Frames.{length-starting_bodies}
 use Rattle.frame_text.specs.Lines.{end_line}
 use Rattle.frame_text.specs.Transcript.{IsTranscript, frame_text, scenario_text}
 use Rattle.orca_cli.specs.Behind.{IsTextBehind}
-use Rattle.orca_cli.proofs.TextBehind.{behind_more, behind_none, some_behind, whole_text}
+use Rattle.orca_cli.proofs.TextBehind.{IsFull, behind_more, behind_none, script_after, some_behind, whole_text}
 
 -- what was written, with the text behind the present frame, is the text behind the first one
 abbrev pub IsPart : Parts → Snapshot → Snapshot → Option (List ℕ) → Option (List ℕ) → Type 0
@@ -34,30 +35,33 @@ module _ (scenario : Parts) (first : Snapshot) (a b : Option (List ℕ)) where
       → {T E : Type 0} (c : Option (List ℕ)) (r : Result T E) → Wrote b c r (end_line present.number) → WroteBehind c r
   ended present over (done, whole, held) c r w = (done ++ end_line present.number, whole (end_line present.number) (behind_none scenario present over), wrote_then a b c r done (end_line present.number) held w)
 
-  module _ (unposted : scenario.posts ≡ []) (before next : Snapshot) (step : IsNext scenario before [] next) (part : IsPart scenario first before a b) where
+  module _ (before next : Snapshot) (posts : List Post) (script : posts ≡ script_after scenario before) (step : IsNext scenario before posts next) (part : IsPart scenario first before a b) where
     -- one more frame
-    more : (text : List ℕ) → IsTextBehind scenario next text → IsTextBehind scenario first ((part.0 ++ frame_text next []) ++ text)
+    more : (text : List ℕ) → IsTextBehind scenario next text → IsTextBehind scenario first ((part.0 ++ frame_text next posts) ++ text)
     more text behind =
-        subst (IsTextBehind scenario first) (sym (append_assoc part.0 (frame_text next []) text)) (part.1 (frame_text next [] ++ text) (behind_more scenario unposted before next text step behind))
+        subst (IsTextBehind scenario first) (sym (append_assoc part.0 (frame_text next posts) text))
+        (part.1 (frame_text next posts ++ text)
+        (subst (λ (list : List Post). IsTextBehind scenario before (frame_text next list ++ text)) (sym script)
+        (behind_more scenario before next text (subst (λ (list : List Post). IsNext scenario before list next) script step) behind)))
 
-    pub part_more : (shown : Snapshot) → shown ≡ next → (c : Option (List ℕ)) → Appends b c (frame_text shown []) → IsPart scenario first next a c
-    part_more shown same c held = (part.0 ++ frame_text next [], more, Appends-trans a b c part.0 (frame_text next []) part.2 (subst (λ f. Appends b c (frame_text f [])) same held))
+    pub part_more : (shown : Snapshot) → shown ≡ next → (c : Option (List ℕ)) → Appends b c (frame_text shown posts) → IsPart scenario first next a c
+    part_more shown same c held = (part.0 ++ frame_text next posts, more, Appends-trans a b c part.0 (frame_text next posts) part.2 (subst (λ f. Appends b c (frame_text f posts)) same held))
 
     -- a failure in the midst of it
-    pub broken_off : IsValid scenario → IsFull scenario next → (shown : Snapshot) → shown ≡ next → (c : Option (List ℕ)) → AppendsPrefix b c (frame_text shown [])
+    pub broken_off : IsValid scenario → IsFull scenario next → (shown : Snapshot) → shown ≡ next → (c : Option (List ℕ)) → AppendsPrefix b c (frame_text shown posts)
         → (text : List ℕ) × IsTextBehind scenario first text × AppendsPrefix a c text
     broken_off valid full shown same c p =
-        let (rest, behind) = some_behind scenario unposted valid next full in (
-          (part.0 ++ frame_text next []) ++ rest,
+        let (rest, behind) = some_behind scenario valid next full in (
+          (part.0 ++ frame_text next posts) ++ rest,
           more rest behind,
-          prefix_longer a c (part.0 ++ frame_text next []) rest (prefix_then a b c part.0 (frame_text next []) part.2 (subst (λ f. AppendsPrefix b c (frame_text f [])) same p)),
+          prefix_longer a c (part.0 ++ frame_text next posts) rest (prefix_then a b c part.0 (frame_text next posts) part.2 (subst (λ f. AppendsPrefix b c (frame_text f posts)) same p)),
         )
 
 -- ---- the whole run
 
-module _ (scenario : Parts) (valid : IsValid scenario) (unposted : scenario.posts ≡ []) (first : Snapshot) (start : first ≡ start_of scenario) (a b : Option (List ℕ)) where
+module _ (scenario : Parts) (valid : IsValid scenario) (first : Snapshot) (start : first ≡ start_of scenario) (a b : Option (List ℕ)) where
   begun : IsFull scenario first
-  begun = rw start (start_full scenario)
+  begun = rw start (length-starting_bodies 0 scenario.agents)
 
   -- a prefix of the transcript
   abbrev pub WrotePrefix : Option (List ℕ) → Type 0
@@ -66,14 +70,14 @@ module _ (scenario : Parts) (valid : IsValid scenario) (unposted : scenario.post
   -- a failure in the midst of the scenario's text
   pub text_broken_off : AppendsPrefix a b (scenario_text scenario) → WrotePrefix b
   text_broken_off p =
-      let (rest, behind) = some_behind scenario unposted valid first begun in
+      let (rest, behind) = some_behind scenario valid first begun in
       (scenario_text scenario ++ (frame_text first [] ++ rest), whole_text scenario first rest start behind, prefix_longer a b (scenario_text scenario) (frame_text first [] ++ rest) p)
 
   module _ (c : Option (List ℕ)) (held : Appends a b (scenario_text scenario)) where
     -- or of frame 0
     pub start_broken_off : (shown : Snapshot) → shown ≡ first → AppendsPrefix b c (frame_text shown []) → WrotePrefix c
     start_broken_off shown same p =
-        let (rest, behind) = some_behind scenario unposted valid first begun in (
+        let (rest, behind) = some_behind scenario valid first begun in (
           scenario_text scenario ++ (frame_text first [] ++ rest),
           whole_text scenario first rest start behind,
           prefix_then a b c (scenario_text scenario) (frame_text first [] ++ rest) held (prefix_longer b c (frame_text first []) rest (subst (λ f. AppendsPrefix b c (frame_text f [])) same p)),

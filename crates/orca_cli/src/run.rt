@@ -1,36 +1,54 @@
 // The run of a scenario, written frame by frame.
-ghost use Rattle.std.specs.Prelude.{◌≡◌, [], ℕ, List};
+ghost use Rattle.std.specs.Prelude.{◌≡◌, ◌+◌, ◌≤◌, ℕ, List, length};
 ghost use Rattle.outside_io.specs.Causes.{HasCause, Wrote};
 ghost use Rattle.crowd_data.specs.Run.{scripts_of, start_of};
 ghost use Rattle.frame_text.specs.Transcript.{IsTranscript};
 ghost use Rattle.orca_cli.specs.Behind.{IsTextBehind};
 
+use crowd_data::{Post, push_script};
+use fixed_vec::List;
 use frame_step::Stepper;
 use frame_text::{write_end, write_frame, write_scenario};
-use outside_io::{Failed, Sink};
+use outside_io::{Failed, Gate, Sink};
 
-// Writes the frames of all steps behind the present one, and the line at the end.
-fn write_steps<T: Sink>(out: &mut T, stepper: &mut Stepper) -> Result<(), Failed>
-    requires unposted { stepper.old.scenario.posts ≡ [] }
+// Writes the frames of all steps, of which none was made yet, and the line at the end.
+fn write_steps<T: Sink, G: Gate + Sync>(
+    out: &mut T,
+    stepper: &mut Stepper,
+    script: &mut List<Post>,
+    gate: &G,
+) -> Result<(), Failed>
+    requires start { stepper.old.frame.number ≡ 0 }
+    requires room { length stepper.old.scenario.posts ≤ length script.old.items + script.old.spare }
     ensures text { (text : List ℕ) × IsTextBehind stepper.old.scenario stepper.old.frame text × Wrote (T.held out.old) (T.held out.new) result text }
     ensures cause { HasCause (T.faults out.old) (T.faults out.new) result }
 {
     let steps = stepper.scenario().steps();
+    let mut place = 0;
     while stepper.frame().number < steps {
-        stepper.step();
-        write_frame(out, stepper.frame(), &[])?;
+        let number = stepper.frame().number + 1;
+        script.clear();
+        place = push_script(script, stepper.scenario().posts(), place, number);
+        stepper.step_gated(script.items(), gate);
+        write_frame(out, stepper.frame(), script.items())?;
     }
     write_end(out, stepper.frame().number)
 }
 
-/// Writes the transcript of the run whose frame 0 is the present one.
-pub(crate) fn write_run<T: Sink>(out: &mut T, stepper: &mut Stepper) -> Result<(), Failed>
+/// Writes the transcript of the run whose frame 0 is the present one, with its scripted posts. `script` has
+/// room for all of them.
+pub(crate) fn write_run<T: Sink, G: Gate + Sync>(
+    out: &mut T,
+    stepper: &mut Stepper,
+    script: &mut List<Post>,
+    gate: &G,
+) -> Result<(), Failed>
     requires start { stepper.old.frame ≡ start_of stepper.old.scenario }
-    requires unposted { stepper.old.scenario.posts ≡ [] }
+    requires room { length stepper.old.scenario.posts ≤ length script.old.items + script.old.spare }
     ensures text { (text : List ℕ) × IsTranscript stepper.old.scenario (scripts_of stepper.old.scenario) text × Wrote (T.held out.old) (T.held out.new) result text }
     ensures cause { HasCause (T.faults out.old) (T.faults out.new) result }
 {
     write_scenario(out, stepper.scenario())?;
     write_frame(out, stepper.frame(), &[])?;
-    write_steps(out, stepper)
+    write_steps(out, stepper, script, gate)
 }

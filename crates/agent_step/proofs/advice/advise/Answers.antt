@@ -1,5 +1,5 @@
 use Rattle.std.proofs.Common.{◌≡◌, ◌∙◌, List, ap, sym, arith, map}
-use Rattle.body_law.proofs.Crowds.{agent_at-crowd_of}
+use Rattle.crowd_data.proofs.Crowds.{agent_at-crowd_of}
 use Rattle.crowd_data.specs.declared.agent.Agent.{Agent}
 use Rattle.crowd_data.specs.Advice.{agent_at}
 use Rattle.crowd_data.specs.Run.{crowd_of}

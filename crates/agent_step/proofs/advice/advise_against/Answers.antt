@@ -1,7 +1,7 @@
 use Rattle.std.proofs.Common.{◌≡◌, ◌∙◌, ◌+◌, List, All, ap, sym, subst, refl, arith, length}
 use Rattle.hard_plane.proofs.Examples.{length-ring_planes}
-use Rattle.body_law.proofs.Crowds.{agent_at-crowd_of}
-use Rattle.body_law.proofs.Lists.{before_map}
+use Rattle.crowd_data.proofs.Crowds.{agent_at-crowd_of}
+use Rattle.exact_algebra.proofs.Elements.{before_map}
 use Rattle.crowd_data.specs.declared.agent.Agent.{Agent}
 use Rattle.crowd_data.specs.Advice.{agent_at, hard_planes, soft_planes}
 use Rattle.crowd_data.specs.Run.{body_at, crowd_of, standing}

@@ -1,6 +1,6 @@
 use Rattle.std.proofs.Common.{sym, ap}
 use Rattle.crowd_data.specs.Advice.{disc_of}
-use Rattle.body_law.proofs.Crowds.{agent_at-crowd_of}
+use Rattle.crowd_data.proofs.Crowds.{agent_at-crowd_of}
 use Rattle.agent_step.proofs.soft.disc.Goals as goal
 
 pub returns : goal.returns

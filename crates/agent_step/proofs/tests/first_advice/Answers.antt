@@ -7,7 +7,7 @@ use Rattle.crowd_data.specs.Advice.{nobody, place_of}
 use Rattle.crowd_data.specs.Limits.{IsVelocity}
 use Rattle.crowd_data.specs.Run.{Snapshot, starting_bodies}
 use Rattle.agent_kdtree.specs.Placed.{IsPlaced}
-use Rattle.body_law.proofs.Crowds.{length-starting_bodies}
+use Rattle.crowd_data.proofs.Frames.{length-starting_bodies}
 use Rattle.agent_step.proofs.FirstFrames.{all_below, all_places, all_slow, crowd_of-start, pos-start, pref-start}
 use Rattle.agent_step.proofs.tests.first_advice.Goals as goal
 

@@ -1,26 +1,25 @@
 use Rattle.std.proofs.Common.{◌∙◌, ap, arith, length, sym, subst}
 use Rattle.crowd_data.specs.Run.{Snapshot}
+use Rattle.crowd_data.proofs.Frames.{length-starting_bodies, start_present}
 use Rattle.agent_kdtree.specs.Stands.{HasRoomFor}
 use Rattle.agent_step.proofs.CrowdPlaces.{length-places}
-use Rattle.body_law.proofs.WithinSpeed.{start_full}
-use Rattle.frame_step.proofs.Present.{start_present}
 use Rattle.frame_step.proofs.stepper.Stepper.open.Goals as goal
 
 pub place_all-requires-clause-full : goal.place_all-requires-clause-full
 place_all-requires-clause-full c =
-    let full = ap (λ (s : Snapshot). length s.bodies) c.in_ok-frame.ensures ∙ start_full c.args.scenario in
+    let full = ap (λ (s : Snapshot). length s.bodies) c.in_ok-frame.ensures ∙ length-starting_bodies 0 c.args.scenario.agents in
     ap length c.items.ensures ∙ full ∙ sym (ap length c.agents-2.ensures.value)
 
 pub open-requires-3 : goal.open-requires-3
 open-requires-3 c =
-    let full = ap (λ (s : Snapshot). length s.bodies) c.in_ok-frame.ensures ∙ start_full c.args.scenario in
+    let full = ap (λ (s : Snapshot). length s.bodies) c.in_ok-frame.ensures ∙ length-starting_bodies 0 c.args.scenario.agents in
     let are = c.items-2.ensures ∙ (rw (c.agents-2.ensures.value, c.items.ensures) at c.place_all.ensures.places) in
     omega (arith, length-places _ _ _ full are, c.agents-2.ensures.valid.agent_count)
 
 pub invariant_of-result : goal.invariant_of-result
 invariant_of-result c =
     let count = ap length c.agents-agents.ensures.value in
-    let full = ap (λ (s : Snapshot). length s.bodies) c.in_ok-frame.ensures ∙ start_full c.args.scenario in
+    let full = ap (λ (s : Snapshot). length s.bodies) c.in_ok-frame.ensures ∙ length-starting_bodies 0 c.args.scenario.agents in
     let are = c.items-2.ensures ∙ (rw (c.agents-2.ensures.value, c.items.ensures) at c.place_all.ensures.places) in
     record {
       valid = c.agents-agents.ensures.valid;

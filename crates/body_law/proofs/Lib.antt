@@ -1,5 +1,0 @@
-pub mod Lists
-pub mod Crowds
-pub mod Runs
-pub mod WithinSpeed
-pub mod OffWalls

@@ -1,0 +1,48 @@
+-- A whole step: posts are taken in, all agents' bodies move, and what comes of it is the next frame.
+use Rattle.std.proofs.Common.{◌≡◌, ◌∙◌, ◌<◌, ◌+◌, ℕ, List, [], length, sym, subst, arith}
+use Rattle.std.specs.List.{All}
+use Rattle.crowd_data.specs.declared.frame.Body.{Body}
+use Rattle.crowd_data.specs.declared.post.Post.{Post}
+use Rattle.crowd_data.specs.Limits.{IsPost}
+use Rattle.crowd_data.specs.Present.{IsPresent}
+use Rattle.crowd_data.specs.Run.{IsNext, Snapshot, after_posts}
+use Rattle.crowd_data.specs.SafeSteps.{IsSafeStep}
+use Rattle.crowd_data.specs.Scenario.{IsValid, Parts}
+use Rattle.crowd_data.proofs.Frames.{posted_present}
+use Rattle.run_law.specs.Laws.{EveryStepIsSafe}
+use Rattle.frame_step.specs.Moved.{AppendsMoved}
+use Rattle.frame_step.proofs.MovedBodies.{next_is, next_posted, next_slow}
+use Rattle.frame_step.proofs.Present.{next_present}
+
+module _ (scenario : Parts) (frame : Snapshot) (posts : List Post) (bodies : List Body) (valid : IsValid scenario) (present : IsPresent scenario frame)
+    (sound : All (IsPost (length scenario.agents)) posts) (taken : bodies ≡ after_posts posts frame.bodies) where
+  -- the frame that all advice is taken from
+  abbrev pub frozen : Snapshot
+  frozen = record { number = frame.number; bodies = bodies }
+
+  pub frozen_present : IsPresent scenario frozen
+  frozen_present = subst (λ (b : List Body). IsPresent scenario (record { number = frame.number; bodies = b })) (sym taken) (posted_present scenario frame posts present sound)
+
+  module _ (below : frame.number < scenario.steps) (old new : List Body) (count : ℕ) (none : old ≡ []) (all : count ≡ length scenario.agents)
+      (moved : AppendsMoved scenario frozen 0 count old new) where
+    abbrev pub made : Snapshot
+    made = record { number = frame.number + 1; bodies = new }
+
+    all_moved : AppendsMoved scenario frozen 0 (length bodies) [] new
+    all_moved =
+        subst (λ (b : List Body). AppendsMoved scenario frozen 0 (length bodies) b new) none
+        (subst (λ n. AppendsMoved scenario frozen 0 n old new) (all ∙ sym frozen_present.full) moved)
+
+    frozen_step : IsNext scenario frozen [] made
+    frozen_step = next_is scenario frozen new below all_moved
+
+    pub made_next : IsNext scenario frame posts made
+    made_next =
+        next_posted scenario frame posts made
+        (subst (λ (b : List Body). IsNext scenario (record { number = frame.number; bodies = b }) [] made) taken frozen_step)
+
+    pub made_present : IsPresent scenario made
+    made_present = next_present scenario frozen made valid frozen_present frozen_step (next_slow scenario frozen new all_moved)
+
+    pub made_safe : EveryStepIsSafe scenario → IsSafeStep scenario frame made
+    made_safe law = law frame made posts present made_next

@@ -1,0 +1,68 @@
+use Rattle.std.proofs.Common.{◌≡◌, ◌∙◌, ◌-◌, ap, arith, length, sym, subst}
+use Rattle.crowd_data.specs.Run.{snapshot_of}
+use Rattle.agent_kdtree.specs.Stands.{HasRoomFor}
+use Rattle.agent_step.proofs.CrowdPlaces.{all_placed, length-places}
+use Rattle.frame_step.proofs.Present.{places_below}
+use Rattle.frame_step.proofs.Stepping.{frozen_present, made_next, made_present, made_safe}
+use Rattle.frame_step.proofs.stepper.Stepper.step_gated.Goals as goal
+
+pub place_all-requires-clause-full : goal.place_all-requires-clause-full
+place_all-requires-clause-full g c =
+    let ready = c.self.invariant in
+    let still = frozen_present c.self.inside.scenario (snapshot_of c.self.inside.frame) c.args.posts.now _ ready.valid ready.present (rw (← c.self.view_is) at c.requires.posts) c.take_all.ensures.items in
+    ap length c.items.ensures ∙ still.full ∙ sym (ap length c.agents-agents.ensures.value)
+
+pub rebuild-requires-clause-room : goal.rebuild-requires-clause-room
+rebuild-requires-clause-room g c =
+    let ready = c.self.invariant in
+    let still = frozen_present c.self.inside.scenario (snapshot_of c.self.inside.frame) c.args.posts.now _ ready.valid ready.present (rw (← c.self.view_is) at c.requires.posts) c.take_all.ensures.items in
+    let are = c.items-2.ensures ∙ (rw (c.agents-agents.ensures.value, c.items.ensures) at c.place_all.ensures.places) in
+    subst (HasRoomFor c.self.inside.tree) (sym (length-places _ _ _ still.full are)) ready.tree
+
+pub rebuild-requires-clause-placed : goal.rebuild-requires-clause-placed
+rebuild-requires-clause-placed g c =
+    let ready = c.self.invariant in
+    let still = frozen_present c.self.inside.scenario (snapshot_of c.self.inside.frame) c.args.posts.now _ ready.valid ready.present (rw (← c.self.view_is) at c.requires.posts) c.take_all.ensures.items in
+    let are = c.items-2.ensures ∙ (rw (c.agents-agents.ensures.value, c.items.ensures) at c.place_all.ensures.places) in
+    all_placed _ _ _ still.full are ready.valid.agents
+    (rw are (places_below _ _ c.self.inside.frame.number (omega (arith, ready.present.number, ready.valid.steps)) still.bodies))
+
+pub move_range-requires-clause-present : goal.move_range-requires-clause-present
+move_range-requires-clause-present g c =
+    let ready = c.self.invariant in
+    frozen_present c.self.inside.scenario (snapshot_of c.self.inside.frame) c.args.posts.now _ ready.valid ready.present (rw (← c.self.view_is) at c.requires.posts) c.take_all.ensures.items
+
+pub invariant_of-self : goal.invariant_of-self
+invariant_of-self g c =
+    let ready = c.self.invariant in
+    let scenario = c.self.inside.scenario in
+    let frame = snapshot_of c.self.inside.frame in
+    let still = frozen_present scenario frame c.args.posts.now _ ready.valid ready.present (rw (← c.self.view_is) at c.requires.posts) c.take_all.ensures.items in
+    let are = c.items-2.ensures ∙ (rw (c.agents-agents.ensures.value, c.items.ensures) at c.place_all.ensures.places) in
+    let count : length c.agents-agents.result.now - 0 ≡ length scenario.agents = omega (arith, ap length c.agents-agents.ensures.value) in
+    record {
+      valid = ready.valid;
+      present = rw (c.swap.ensures.x_after) (made_present scenario frame c.args.posts.now _ ready.valid ready.present (rw (← c.self.view_is) at c.requires.posts) c.take_all.ensures.items (rw (← c.self.view_is) at c.requires.below) _ _ _ c.clear.ensures.items count c.move_range.ensures.moved);
+      polygons = ready.polygons;
+      bodies = rw (c.swap.ensures.y_after) (omega (arith, still.full));
+      places = omega (arith, ap length c.agents-agents.ensures.value, c.place_all.ensures.room);
+      tree = subst (HasRoomFor c.rebuild.new.self) (length-places _ _ _ still.full are) c.rebuild.ensures.stands.room;
+      planes = rw (c.move_range.ensures.planes) ready.planes;
+    }
+
+pub returns-clause-next : goal.returns-clause-next
+returns-clause-next g c =
+    let ready = c.self.invariant in
+    let scenario = c.self.inside.scenario in
+    let frame = snapshot_of c.self.inside.frame in
+    let count : length c.agents-agents.result.now - 0 ≡ length scenario.agents = omega (arith, ap length c.agents-agents.ensures.value) in
+    rw (← c.self.view_is, c.swap.ensures.x_after) (made_next scenario frame c.args.posts.now _ ready.valid ready.present (rw (← c.self.view_is) at c.requires.posts) c.take_all.ensures.items (rw (← c.self.view_is) at c.requires.below) _ _ _ c.clear.ensures.items count c.move_range.ensures.moved)
+
+pub returns-clause-safe : goal.returns-clause-safe
+returns-clause-safe g c =
+    let ready = c.self.invariant in
+    let scenario = c.self.inside.scenario in
+    let frame = snapshot_of c.self.inside.frame in
+    let count : length c.agents-agents.result.now - 0 ≡ length scenario.agents = omega (arith, ap length c.agents-agents.ensures.value) in
+    rw (← c.self.view_is, c.swap.ensures.x_after)
+    (made_safe scenario frame c.args.posts.now _ ready.valid ready.present (rw (← c.self.view_is) at c.requires.posts) c.take_all.ensures.items (rw (← c.self.view_is) at c.requires.below) _ _ _ c.clear.ensures.items count c.move_range.ensures.moved c.every_step_is_safe.ensures)

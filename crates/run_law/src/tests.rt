@@ -1,0 +1,24 @@
+// Each law is called once.
+use crate::{every_run_is_safe, every_step_is_safe, next_exists, one_advice, one_next, one_run};
+use crowd_data::Scenario;
+use fixed_vec::List;
+use std::test::Fail;
+
+#[test]
+fn laws_hold_of_a_scenario(rt: HostRuntime) -> Result<(), Fail> {
+    let scenario = Scenario::of(
+        40,
+        List::with_room(rt.alloc(), 0)?,
+        List::with_room(rt.alloc(), 0)?,
+        List::with_room(rt.alloc(), 0)?,
+        List::with_room(rt.alloc(), 0)?,
+    );
+    every_step_is_safe(&scenario);
+    every_run_is_safe(&scenario);
+    next_exists(&scenario);
+    one_advice(&scenario);
+    one_next(&scenario);
+    one_run(&scenario);
+    assert_eq!(rt; scenario.steps(), 40);
+    Ok(())
+}
