@@ -7,3 +7,4 @@ pub mod Frames
 pub mod Sight
 pub mod Shares
 mod Examples
+pub mod GoalTables

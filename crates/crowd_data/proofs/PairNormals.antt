@@ -1,5 +1,5 @@
 -- Normals of the half-planes of a pair.
-use Rattle.std.proofs.Common.{◌≡◌, Bool, true, false, cond, refl, arith, ℤ, pos, ◌<ℤ◌}
+use Rattle.std.proofs.Common.{◌≡◌, Bool, true, false, cond, refl, arith, pos, ◌<ℤ◌}
 use Rattle.std.specs.Ordering.{int_eq}
 use Rattle.std.proofs.lemmas.Int.{ints}
 use Rattle.exact_algebra.proofs.Tests.{eq_false}

@@ -1,5 +1,5 @@
 -- Posts set preferred velocities alone.
-use Rattle.std.proofs.Common.{◌≡◌, ◌≢◌, ◌∙◌, ◌<◌, ◌+◌, ℕ, zero, suc, Bool, true, false, cond, eqb, eq-eqb, List, [], ◌∷◌, length, map, refl, sym, ap, subst, arith}
+use Rattle.std.proofs.Common.{◌≡◌, ◌∙◌, ◌<◌, ◌+◌, ℕ, zero, suc, Bool, true, false, cond, eqb, eq-eqb, List, [], ◌∷◌, length, map, refl, arith}
 use Rattle.std.specs.Prelude.{slice_set}
 use Rattle.std.proofs.lemmas.Bool.{ne_eqb}
 use Rattle.fixed_vec.specs.declared.vector.V2.{V2}
@@ -8,7 +8,7 @@ use Rattle.crowd_data.specs.declared.frame.Body.{Body}
 use Rattle.crowd_data.specs.declared.post.Post.{Post}
 use Rattle.crowd_data.specs.Advice.{place_of}
 use Rattle.crowd_data.specs.Present.{AreNumbered}
-use Rattle.crowd_data.specs.Run.{after_post, after_posts, body_at, crowd_of, no_body, standing}
+use Rattle.crowd_data.specs.Run.{after_post, after_posts, body_at, crowd_of, standing}
 
 -- what one post leaves as it is, all posts leave
 unposted : {X : Type 0} (F : List Body → X) → ((post : Post) (bodies : List Body) → F (after_post post bodies) ≡ F bodies)

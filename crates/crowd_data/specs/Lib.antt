@@ -10,3 +10,4 @@ pub mod Safety
 pub mod Headings
 pub mod SafeSteps
 pub mod Present
+pub mod Goals

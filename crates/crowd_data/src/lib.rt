@@ -10,19 +10,27 @@ mod agent;
 mod clearance;
 mod copies;
 mod frame;
+mod limits;
 mod pair;
 mod post;
 mod scenario;
 mod segment;
+mod validity;
 
 pub use agent::Agent;
 pub use clearance::clear;
 pub use copies::{copy_frame, copy_posts};
 pub use frame::{Body, Frame, Mark, Moves, first_frame};
+pub use limits::{
+    GREATEST_AGENT, GREATEST_CONTROLLER, GREATEST_COORDINATE, GREATEST_HORIZON, GREATEST_RADIUS,
+    GREATEST_RANGE, GREATEST_SPEED, MOST_AGENTS, MOST_NEIGHBOURS, MOST_POSTS, MOST_SEGMENTS,
+    MOST_STEPS,
+};
 pub use pair::{Disc, Place, Region};
 pub use post::{Goal, Post, SCRIPT, ScriptPost};
 pub use scenario::Scenario;
 pub use segment::Segment;
+pub use validity::valid;
 
 #[cfg(test)]
 mod tests;

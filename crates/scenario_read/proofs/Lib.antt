@@ -1,4 +1,0 @@
-pub mod RecordSteps
-pub mod Boms
-mod TakenSoFar
-mod ScenarioRecords
