@@ -1,0 +1,14 @@
+pub mod Records
+pub mod Numbers
+pub mod Fields
+pub mod Values
+pub mod Read
+pub mod AgentRecord
+pub mod SegmentRecord
+pub mod StepsRecord
+pub mod PostRecord
+pub mod GoalRecord
+pub mod Reading
+pub mod Part
+pub mod Additions
+pub mod Remaining

@@ -1,0 +1,110 @@
+-- How a scenario is read: a fold over the list of records, with the first cause that holds.
+use Rattle.std.specs.Prelude.{◌≡◌, ◌⊎◌, ℕ, ◌+◌, ◌==◌, ◌&&◌, Bool, true, if◌then◌else◌, List, [], ◌∷◌, length, Some, None, Result, Ok, Err, codes, slice_get, take as first_of, All}
+use Rattle.std.specs.declared.option.Option.{Option}
+use Rattle.std.specs.Str.{bytes_eq}
+use Rattle.crowd_data.specs.declared.agent.Agent.{Agent}
+use Rattle.crowd_data.specs.declared.segment.Segment.{Segment}
+use Rattle.crowd_data.specs.Scenario.{Parts}
+use Rattle.crowd_data.specs.Walls.{IsClear}
+use Rattle.scenario_read.specs.declared.cause.Cause.{Cause}
+use Rattle.scenario_read.specs.declared.cause.Cause.TheVariants.{NoHeader, UnknownKind, NoSteps, AgentOnSegment}
+use Rattle.scenario_read.specs.declared.cause.ScenarioFault.{ScenarioFault}
+use Rattle.scenario_read.specs.declared.cause.ScenarioFault.TheVariants.{NoMemory, At}
+use Rattle.scenario_read.specs.AgentRecord.{agent_of, with_agent}
+use Rattle.scenario_read.specs.Fields.{field_text, is_kind}
+use Rattle.scenario_read.specs.GoalRecord.{goal_of, with_goal}
+use Rattle.scenario_read.specs.PostRecord.{post_of, with_post}
+use Rattle.scenario_read.specs.Read.{Read, nothing_read}
+use Rattle.scenario_read.specs.Records.{Record}
+use Rattle.scenario_read.specs.SegmentRecord.{segment_of, with_segment}
+use Rattle.scenario_read.specs.StepsRecord.{steps_of, with_steps}
+use Rattle.scenario_read.specs.Values.{and_then}
+
+-- ---- the records one at a time
+
+-- crowd,1
+abbrev pub is_header : Record → Bool
+is_header fields = (length fields == 2) && is_kind fields (codes "crowd") && bytes_eq (field_text fields 1) (codes "1")
+
+-- one more record behind the header
+unfoldable pub with_kind : Read → Record → Result Read Cause
+with_kind p fields =
+    if is_kind fields (codes "agent") then and_then (agent_of fields) (with_agent p)
+    else if is_kind fields (codes "segment") then and_then (segment_of fields) (with_segment p)
+    else if is_kind fields (codes "steps") then and_then (steps_of fields) (with_steps p p.steps)
+    else if is_kind fields (codes "post") then and_then (post_of fields) (with_post p)
+    else if is_kind fields (codes "goal") then and_then (goal_of fields) (with_goal p)
+    else Err UnknownKind
+
+-- one more record
+unfoldable pub with_record : Read → Record → Result Read Cause
+with_record p fields =
+    if p.begun then with_kind p fields
+    else (if is_header fields then Ok (record p { begun = true }) else Err NoHeader)
+
+-- the scenario with these steps, if there are any
+abbrev pub with_all : Read → Option ℕ → Result Parts Cause
+with_all p None = Err NoSteps
+with_all p (Some n) = Ok (record { steps = n; agents = p.agents; segments = p.segments; posts = p.posts; goals = p.goals })
+
+-- the end of the records
+unfoldable pub ended : Read → Result Parts Cause
+ended p = if p.begun then with_all p p.steps else Err NoHeader
+
+-- a cause with the number of its record
+abbrev pub numbered : {A : Type 0} → ℕ → Result A Cause → Result A (ℕ × Cause)
+numbered k (Ok a) = Ok a
+numbered k (Err cause) = Err (k, cause)
+
+abbrev pub go_on : {A B : Type 0} → Result A (ℕ × Cause) → (A → Result B (ℕ × Cause)) → Result B (ℕ × Cause)
+go_on (Ok a) more = more a
+go_on (Err first) more = Err first
+
+-- the records from number k on; causes at their end have the count of records as number
+unfoldable pub outcome_from : Read → ℕ → List Record → Result Parts (ℕ × Cause)
+outcome_from p k [] = numbered k (ended p)
+outcome_from p k (fields ∷ rest) = go_on (numbered k (with_record p fields)) (λ q. outcome_from q (k + 1) rest)
+
+-- ---- what is answered
+
+-- the scenario of the records, or the first cause, but for agents on segments
+abbrev pub outcome : List Record → Result Parts (ℕ × Cause)
+outcome rows = outcome_from nothing_read 0 rows
+
+-- every agent is clear of every segment
+abbrev pub AllClear : List Agent → List Segment → Type 0
+AllClear agents segments = All (λ (agent : Agent). All (IsClear agent.pos agent.radius) segments) agents
+
+-- an agent isn't clear of a segment; it is the least such agent, and for it the least such segment
+pub record OnSegment (agents : List Agent) (segments : List Segment) (who which : ℕ) : Type 0 where
+  pub agent : Agent
+  pub segment : Segment
+  pub agent_is : slice_get agents who ≡ Some agent
+  pub segment_is : slice_get segments which ≡ Some segment
+  pub touched : ¬ IsClear agent.pos agent.radius segment
+  pub least_segment : All (IsClear agent.pos agent.radius) (first_of which segments)
+  pub least_agent : AllClear (first_of who agents) segments
+
+-- records are accepted as a scenario: no cause holds
+pub record IsAccepted (rows : List Record) (scenario : Parts) : Type 0 where
+  pub read : outcome rows ≡ Ok scenario
+  pub clear : AllClear scenario.agents scenario.segments
+
+-- the cause that comes last: an agent on a segment, with the count of records as number
+pub record IsOnSegment (rows : List Record) (index : ℕ) (cause : Cause) : Type 0 where
+  pub scenario : Parts
+  pub who : ℕ
+  pub which : ℕ
+  pub read : outcome rows ≡ Ok scenario
+  pub on : OnSegment scenario.agents scenario.segments who which
+  pub index_is : index ≡ length rows
+  pub cause_is : cause ≡ AgentOnSegment who which
+
+-- records are refused with the first cause that holds, and its number
+abbrev pub IsRefusedFor : List Record → ℕ → Cause → Type 0
+IsRefusedFor rows index cause = (outcome rows ≡ Err (index, cause)) ⊎ IsOnSegment rows index cause
+
+-- what a fault says of the records
+abbrev pub HasFault : List Record → ScenarioFault → Type 0
+HasFault rows NoMemory = Unit {0}
+HasFault rows (At index cause) = IsRefusedFor rows index cause

@@ -1,0 +1,27 @@
+//! Reads scenarios: bytes, the records that `csv` gives for them, and what the records stand for.
+#![tactic(auto)]
+
+mod agent_record;
+mod cause;
+mod ending;
+mod fields;
+mod goal_record;
+mod motion;
+mod part;
+mod post_record;
+mod read;
+mod reading;
+mod record;
+mod record_fault;
+mod refusal;
+mod segment_record;
+mod standing;
+mod steps_record;
+mod values;
+
+pub use cause::{Cause, ScenarioFault};
+pub use part::Part;
+pub use read::{read_part, read_scenario};
+
+#[cfg(test)]
+mod tests;
