@@ -6,5 +6,6 @@ pub mod Posts
 pub mod Frames
 pub mod Sight
 pub mod Shares
+pub mod ScriptedPosts
 mod Examples
 pub mod GoalTables

@@ -11,3 +11,4 @@ pub mod Headings
 pub mod SafeSteps
 pub mod Present
 pub mod Goals
+pub mod Scripts

@@ -14,6 +14,7 @@ mod limits;
 mod pair;
 mod post;
 mod scenario;
+mod script;
 mod segment;
 mod validity;
 
@@ -29,6 +30,7 @@ pub use limits::{
 pub use pair::{Disc, Place, Region};
 pub use post::{Goal, Post, SCRIPT, ScriptPost};
 pub use scenario::Scenario;
+pub use script::push_script;
 pub use segment::Segment;
 pub use validity::valid;
 
