@@ -4,9 +4,11 @@ ghost use Rattle.std.specs.Prelude.{◌≡◌, ◌<◌, ◌≤◌, ◌+◌, [], 
 use std::alloc::Global;
 use std::marker::Model;
 
+/// Memory ran out.
 #[derive(Clone, Copy, Debug, PartialEq, Eq)]
 pub struct NoMemory;
 
+/// A list whose room is taken beforehand. Clauses see its items, and how many more it has room for.
 #[derive(Drop)]
 pub struct List<T> {
     held: Vec<T>,
@@ -22,6 +24,8 @@ impl<T> Model for List<T> {
 }
 
 impl<T> List<T> {
+    /// An empty list with room for so many items. `NoMemory` comes only where memory runs out (documented,
+    /// not proved but for no room).
     pub fn with_room(alloc: Global, room: usize) -> Result<List<T>, NoMemory>
         ensures empty { IfOk result (λ l. l.items ≡ []) }
         ensures room { IfOk result (λ l. room ≤ l.spare) }
@@ -33,6 +37,8 @@ impl<T> List<T> {
         }
     }
 
+    /// Takes room for so many more items, where there is less. `NoMemory` comes only where memory runs out
+    /// (documented, not proved but where there was room), and leaves the list as it was.
     pub fn reserve(&mut self, room: usize) -> Result<(), NoMemory>
         ensures items { self.new.items ≡ self.old.items }
         ensures room { OnOk result (room ≤ self.new.spare) }
@@ -45,6 +51,7 @@ impl<T> List<T> {
         }
     }
 
+    /// Puts an item behind the others, for which there must be room.
     pub fn push(&mut self, item: T)
         requires { 1 ≤ self.old.spare }
         ensures items { self.new.items ≡ self.old.items ++ item ∷ [] }
@@ -53,12 +60,14 @@ impl<T> List<T> {
         self.held.push_reserved(item);
     }
 
+    /// The items in order.
     pub fn items(&self) -> &[T]
         ensures { result.now ≡ self.now.items }
     {
         self.held.as_slice()
     }
 
+    /// Puts an item in the place of one that is there.
     pub fn set(&mut self, place: usize, item: T)
     where
         T: Drop,
@@ -69,6 +78,7 @@ impl<T> List<T> {
         self.held[place] = item;
     }
 
+    /// Lets go of all items, and keeps their room.
     pub fn clear(&mut self)
     where
         T: Drop,
