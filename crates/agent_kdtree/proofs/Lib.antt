@@ -3,6 +3,11 @@ mod Sides
 mod Seen
 mod Order
 mod Gather
-mod Boxing
+mod Coverings
 mod Stands
 mod MissedAgents
+mod Complete
+mod CellLines
+mod Sweeping
+mod Narrow
+mod Sorting

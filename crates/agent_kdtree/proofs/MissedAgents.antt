@@ -13,10 +13,10 @@ use Rattle.agent_kdtree.proofs.SquaredGap.{squared_gap-comm}
 use Rattle.agent_kdtree.proofs.Stands.{numbers-contain}
 
 -- a place whose box is farther than all arms together
-pub not_near : (a b : Place) (reach far : ℕ) (box : Bounds) → Covers box b → reach ≡ box.arm + (a.radius + a.speed)
-    → reach * reach < far → far ≤ squared_gap b.pos a.pos → ¬ IsNear a b
-not_near a b reach far box c e t h = λ near.
-    let arms : a.radius + b.radius + a.speed + b.speed ≤ reach = omega (arith, c.arm) in
+pub not_near : (a b : Place) (touching far : ℕ) (box : Bounds) → Covers box b → touching ≡ box.greatest_reach + (a.radius + a.speed)
+    → touching * touching < far → far ≤ squared_gap b.pos a.pos → ¬ IsNear a b
+not_near a b touching far box c e t h = λ near.
+    let arms : a.radius + b.radius + a.speed + b.speed ≤ touching = omega (arith, c.greatest_reach) in
     let squares = mul-le-mul arms arms in
     let far_off = rw (squared_gap-comm b.pos a.pos) at h in
     omega (arith, squares, far_off, near)

@@ -10,7 +10,8 @@ use Rattle.crowd_data.specs.declared.pair.Place.{Place}
 use Rattle.crowd_data.specs.Neighbours.{numbers}
 use Rattle.agent_kdtree.specs.declared.bounds.Bounds.{Bounds}
 use Rattle.agent_kdtree.specs.declared.tree.Tree.{Tree}
-use Rattle.agent_kdtree.specs.Boxes.{IsBoxed, IsEnough, IsNode}
+use Rattle.agent_kdtree.specs.Boxes.{IsCovered, IsEnough, IsNode}
+use Rattle.agent_kdtree.specs.ByCell.{HasNumbers, IsByCell}
 use Rattle.agent_kdtree.specs.Stands.{StandsFor}
 
 pub numbers-contain : (n k : ℕ) → k < n → Contains (numbers n) k
@@ -42,15 +43,17 @@ root tree places h = record {
   enough =
       let e : length tree.order.items ≡ length places = order-length (length places) tree.order.items h.room.order in
       rw e h.room.boxes;
-  boxed = h.boxed;
+  covered = h.covered;
 }
 
 pub stands_for : (tree : Tree) (places : List Place) (order : List ℕ) (boxes : List Bounds) → tree.order.items ≡ order → tree.boxes.items ≡ boxes → IsPermutation (numbers (length places)) order
-    → IsEnough (length places) (length boxes) → IsBoxed places order boxes → StandsFor tree places
-stands_for tree places order boxes e f p n b = record {
+    → IsEnough (length places) (length boxes) → IsCovered places order boxes → HasNumbers tree.layout (length places) → IsByCell tree.layout places → StandsFor tree places
+stands_for tree places order boxes e f p n b h l = record {
   room = record {
     order = subst (λ (t : List ℕ). IsPermutation (numbers (length places)) t) (sym e) p;
     boxes = subst (λ (t : List Bounds). IsEnough (length places) (length t)) (sym f) n;
+    layout = h;
   };
-  boxed = subst (λ (t : List ℕ). IsBoxed places t tree.boxes.items) (sym e) (subst (λ (t : List Bounds). IsBoxed places order t) (sym f) b);
+  covered = subst (λ (t : List ℕ). IsCovered places t tree.boxes.items) (sym e) (subst (λ (t : List Bounds). IsCovered places order t) (sym f) b);
+  by_cell = l;
 }

@@ -7,11 +7,11 @@ use Rattle.crowd_data.specs.declared.pair.Place.{Place}
 use Rattle.crowd_data.specs.Neighbours.{place_at}
 use Rattle.agent_kdtree.specs.declared.bounds.Bounds.{Bounds}
 
--- corners within the limits of places, and an arm no longer than theirs
+-- corners within the limits of places, and no greater reach than theirs: a reach is a radius and a speed
 pub record IsBounds (b : Bounds) : Type 0 where
   pub low : IsBelow b.low (2 ^ 31)
   pub high : IsBelow b.high (2 ^ 31)
-  pub arm : b.arm ≤ 32768 + 16384
+  pub greatest_reach : b.greatest_reach ≤ 32768 + 16384
 
 pub record IsNoHigher (a b : V2) : Type 0 where
   pub x : a.x ≤ℤ b.x
@@ -26,14 +26,14 @@ pub record IsInBounds (b : Bounds) (v : V2) : Type 0 where
 -- what a box says of a place
 pub record Covers (b : Bounds) (p : Place) : Type 0 where
   pub within : IsInBounds b p.pos
-  pub arm : p.radius + p.speed ≤ b.arm
+  pub greatest_reach : p.radius + p.speed ≤ b.greatest_reach
 
 abbrev pub CoversAll : Bounds → List Place → List ℕ → Type 0
 CoversAll b places order = All (λ k. Covers b (place_at places k)) order
 
 -- the box of a node, if any
 abbrev pub no_bounds : Bounds
-no_bounds = record { low = zero_vector; high = zero_vector; arm = 0 }
+no_bounds = record { low = zero_vector; high = zero_vector; greatest_reach = 0 }
 
 abbrev pub box_at : List Bounds → ℕ → Bounds
 box_at boxes k = slice_index_or boxes k no_bounds
@@ -58,17 +58,17 @@ pub record IsEnough (n b : ℕ) : Type 0 where
   pub rest : 2 * n / 5 ≤ b + 1
 
 -- the boxes of the topmost levels cover their places, so many levels deep
-abbrev pub BoxedTo : ℕ → List Place → List ℕ → List Bounds → Type 0
-BoxedTo zero places order boxes = Unit {0}
-BoxedTo (suc depth) places order boxes = IsBounds (box_at boxes 0) × CoversAll (box_at boxes 0) places order
-    × (leaf_places < length order → BoxedTo depth places (take (length order / 2) order) (lower boxes (length order)) × BoxedTo depth places (drop (length order / 2) order) (upper boxes (length order)))
+abbrev pub CoveredTo : ℕ → List Place → List ℕ → List Bounds → Type 0
+CoveredTo zero places order boxes = Unit {0}
+CoveredTo (suc depth) places order boxes = IsBounds (box_at boxes 0) × CoversAll (box_at boxes 0) places order
+    × (leaf_places < length order → CoveredTo depth places (take (length order / 2) order) (lower boxes (length order)) × CoveredTo depth places (drop (length order / 2) order) (upper boxes (length order)))
 
 -- each node's box covers its places
-pub record IsBoxed (places : List Place) (order : List ℕ) (boxes : List Bounds) : Type 0 where
-  pub at : (depth : ℕ) → BoxedTo depth places order boxes
+pub record IsCovered (places : List Place) (order : List ℕ) (boxes : List Bounds) : Type 0 where
+  pub at : (depth : ℕ) → CoveredTo depth places order boxes
 
 -- a node: numbers of places, and boxes for them
 pub record IsNode (places : List Place) (order : List ℕ) (boxes : List Bounds) : Type 0 where
   pub numbers : All (λ k. k < length places) order
   pub enough : IsEnough (length order) (length boxes)
-  pub boxed : IsBoxed places order boxes
+  pub covered : IsCovered places order boxes

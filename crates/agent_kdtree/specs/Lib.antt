@@ -4,3 +4,7 @@ pub mod Gather
 pub mod Boxes
 pub mod Missed
 pub mod Stands
+pub mod Cells
+pub mod Windows
+pub mod ByCell
+pub mod Keys

@@ -4,14 +4,17 @@ use Rattle.std.specs.List.Sorted.{IsPermutation}
 use Rattle.crowd_data.specs.declared.pair.Place.{Place}
 use Rattle.crowd_data.specs.Neighbours.{numbers}
 use Rattle.agent_kdtree.specs.declared.tree.Tree.{Tree}
-use Rattle.agent_kdtree.specs.Boxes.{IsBoxed, IsEnough}
+use Rattle.agent_kdtree.specs.Boxes.{IsCovered, IsEnough}
+use Rattle.agent_kdtree.specs.ByCell.{HasNumbers, IsByCell}
 
--- a tree that was opened for so many places: it has each number once, and enough boxes
+-- a tree that was opened for so many places: it has each number once, in the tree and by cells, and enough boxes
 pub record HasRoomFor (tree : Tree) (n : ℕ) : Type 0 where
   pub order : IsPermutation (numbers n) tree.order.items
   pub boxes : IsEnough n (length tree.boxes.items)
+  pub layout : HasNumbers tree.layout n
 
--- a tree over these places: the box of each of its nodes covers the node's places
+-- a tree over these places: the box of each of its nodes covers the node's places, and they are laid out by cells
 pub record StandsFor (tree : Tree) (places : List Place) : Type 0 where
   pub room : HasRoomFor tree (length places)
-  pub boxed : IsBoxed places tree.order.items tree.boxes.items
+  pub covered : IsCovered places tree.order.items tree.boxes.items
+  pub by_cell : IsByCell tree.layout places

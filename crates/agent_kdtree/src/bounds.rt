@@ -15,11 +15,11 @@ use fixed_vec::V2;
 pub(crate) struct Bounds {
     pub low: V2,
     pub high: V2,
-    pub arm: u32,
+    pub greatest_reach: u32,
 }
 
 /// A box that covers nothing. Its corners are the farthest that a place can have.
-pub(crate) fn bare() -> Bounds
+pub(crate) fn empty_bounds() -> Bounds
     ensures { IsBounds result }
 {
     Bounds {
@@ -31,7 +31,7 @@ pub(crate) fn bare() -> Bounds
             x: -2147483647,
             y: -2147483647,
         },
-        arm: 0,
+        greatest_reach: 0,
     }
 }
 
@@ -71,8 +71,12 @@ fn widened(bounds: Bounds, place: &Place) -> Bounds
 {
     let low = low_corner(bounds.low, place.pos);
     let high = high_corner(bounds.high, place.pos);
-    let arm = bounds.arm.max(place.radius + place.speed);
-    Bounds { low, high, arm }
+    let greatest_reach = bounds.greatest_reach.max(place.radius + place.speed);
+    Bounds {
+        low,
+        high,
+        greatest_reach,
+    }
 }
 
 /// The box of some places.
@@ -82,7 +86,7 @@ pub(crate) fn bounds_of(places: &[Place], order: &[u32]) -> Bounds
     ensures bounds { IsBounds result }
     ensures covers { CoversAll result places.now order.now }
 {
-    let mut bounds = bare();
+    let mut bounds = empty_bounds();
     for k in order {
         bounds = widened(bounds, &places[*k as usize]);
     }
@@ -102,7 +106,7 @@ pub(crate) fn union(a: &Bounds, b: &Bounds) -> Bounds
     Bounds {
         low,
         high,
-        arm: a.arm.max(b.arm),
+        greatest_reach: a.greatest_reach.max(b.greatest_reach),
     }
 }
 

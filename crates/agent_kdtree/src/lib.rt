@@ -1,12 +1,17 @@
-//! Whom an agent sees: its exact neighbours, and whether it misses a near agent, by a kd-tree over the
-//! places of all agents.
+//! Whom an agent sees: its exact neighbours, and whether it misses a near agent.
 //!
-//! `Tree` takes its memory once. A node of it is a piece of the agents' numbers with a box around their
-//! places; a search leaves out the nodes whose boxes are too far away.
+//! `Tree` holds the places of all agents twice: by square cells, two places each on average, and as a
+//! kd-tree, each node of which is a piece of the agents' numbers with a box around their places. Neighbours
+//! are looked for in the cells around an agent, and in the kd-tree where the cells don't show all of them.
+//! It takes its memory once.
 #![tactic(auto)]
 
 mod bounds;
+mod cell;
+mod collect;
 mod distance;
+mod grid;
+mod layout;
 mod missed;
 mod near;
 mod node;

@@ -32,7 +32,7 @@ fn place_for(items: &[Near], near: &Near) -> usize
     items.len()
 }
 
-/// Puts `near` among the best, and cuts after the first `most`.
+/// Puts `near` among the best, and begins after the first `most`.
 pub(crate) fn place_in(best: &mut ArrayVec<Near, 64>, most: usize, near: Near)
     requires most { most ≤ 64 }
     requires room { length best.old.items ≤ most }

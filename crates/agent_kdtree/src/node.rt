@@ -4,7 +4,7 @@ ghost use Rattle.std.specs.List.Sorted.{IsPermutation};
 ghost use Rattle.fixed_vec.specs.Vector.{IsBelow};
 ghost use Rattle.crowd_data.specs.declared.pair.Place.{Place};
 ghost use Rattle.crowd_data.specs.Neighbours.{place_at, squared_gap};
-ghost use Rattle.agent_kdtree.specs.Boxes.{IsBoxed, IsEnough, IsNode};
+ghost use Rattle.agent_kdtree.specs.Boxes.{IsCovered, IsEnough, IsNode};
 ghost use Rattle.agent_kdtree.specs.Gather.{IsQuery, Rises, gather};
 ghost use Rattle.agent_kdtree.specs.Placed.{IsPlaced};
 ghost use Rattle.agent_kdtree.specs.Seen.{seen_all};
@@ -19,32 +19,57 @@ use fixed_vec::V2;
 /// The most places that a leaf has.
 pub(crate) const LEAF: usize = 10;
 
-/// Orders the numbers by halves, across and up in turn, and writes the box of each node.
-pub(crate) fn build(places: &[Place], order: &mut [u32], boxes: &mut [Bounds], across: bool)
+/// How the numbers of a node are halved.
+#[derive(Clone, Copy)]
+pub(crate) enum Cut {
+    /// By the first coordinate, and each half by the second one.
+    Across,
+    /// By the second coordinate, and each half by the first one.
+    Up,
+    /// As they stand, and each half too.
+    Kept,
+}
+
+// How the halves are halved.
+fn next_cut(cut: Cut) -> Cut {
+    match cut {
+        Cut::Across => Cut::Up,
+        Cut::Up => Cut::Across,
+        Cut::Kept => Cut::Kept,
+    }
+}
+
+/// Orders the numbers by halves, and writes the box of each node.
+pub(crate) fn build(places: &[Place], order: &mut [u32], boxes: &mut [Bounds], cut: Cut)
     requires placed { All IsPlaced places.now }
     requires order { All (λ k. k < length places.now) order.old }
     requires enough { IsEnough (length order.old) (length boxes.old) }
     ensures permutation { IsPermutation order.old order.new }
-    ensures boxed { IsBoxed places.now order.new boxes.new }
+    ensures covered { IsCovered places.now order.new boxes.new }
 {
     if order.len() > LEAF {
-        arrange(places, order, across);
+        arrange(places, order, cut);
         let middle = order.len() / 2;
         let (left, right) = order.split_at_mut(middle);
         let (first, rest) = boxes.split_at_mut(1);
         let (lower, upper) = rest.split_at_mut(2 * middle / 5 - 1);
-        build(places, left, lower, !across);
-        build(places, right, upper, !across);
+        build(places, left, lower, next_cut(cut));
+        build(places, right, upper, next_cut(cut));
         first[0] = union(&lower[0], &upper[0]);
     } else {
         boxes[0] = bounds_of(places, order);
     }
 }
 
-// By the coordinate, and then by the number.
-fn arrange(places: &[Place], order: &mut [u32], across: bool)
+// By a coordinate, and then by the number.
+fn arrange(places: &[Place], order: &mut [u32], cut: Cut)
     ensures { IsPermutation order.old order.new }
 {
+    let across = match cut {
+        Cut::Across => true,
+        Cut::Up => false,
+        Cut::Kept => return,
+    };
     order.sort_unstable_by_key(|k| {
         let at = match places.get(*k as usize) {
             Some(place) if across => place.pos.x,

@@ -12,7 +12,7 @@ use arrayvec::ArrayVec;
 use crowd_data::Place;
 use fixed_vec::V2;
 
-/// Whose neighbours are asked for: its number and position, its range and the most that it heeds.
+/// Whose neighbours are asked for: its number and position, its range and the most that it considers.
 #[derive(Clone, Copy)]
 pub(crate) struct Query {
     pub who: u32,
@@ -28,6 +28,8 @@ pub(crate) fn query_for(places: &[Place], who: u32, range: u32, most: u32) -> Qu
     requires range { range ≤ 65536 }
     requires most { most ≤ 64 }
     ensures query { IsQuery result }
+    ensures at { result.at ≡ (place_at places.now who).pos }
+    ensures most { result.most ≡ most }
     ensures value { neighbours places.now who range most ≡ best_of places.now result }
 {
     Query {
@@ -39,7 +41,7 @@ pub(crate) fn query_for(places: &[Place], who: u32, range: u32, most: u32) -> Qu
 }
 
 // The squared distance at which others are out of range.
-fn reach(query: &Query) -> u64
+fn squared_range(query: &Query) -> u64
     requires { IsQuery query.now }
     ensures { result ≡ query.now.range * query.now.range }
 {
@@ -55,7 +57,7 @@ pub(crate) fn is_closed(query: &Query, best: &ArrayVec<Near, 64>, far: u64) -> b
         → offer places query.now k (seen_all best.now.items) ≡ seen_all best.now.items }
     ensures in_range { IsFalse result → far < query.now.range * query.now.range }
 {
-    if far >= reach(query) {
+    if far >= squared_range(query) {
         return true;
     }
     let full = best.len();

@@ -39,7 +39,7 @@ fn no_places(rt: HostRuntime) -> Result<(), Fail> {
     Ok(())
 }
 
-// The first agent heeds one neighbour, and another one is near it.
+// The first agent considers one neighbour, and another one is near it.
 #[test]
 fn crowded(rt: HostRuntime) -> Result<(), Fail> {
     let places = [

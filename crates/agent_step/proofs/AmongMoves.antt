@@ -30,6 +30,11 @@ length-filter_le {X} p (x ∷ xs) = by (p x) (length-filter_le p xs)
     by true h = omega (arith, h)
     by false h = omega (arith, h)
 
+-- how many wall planes there are at most
+pub length-wall_planes : (segments : List Segment) (agent : Agent) → length (map (λ segment. drawn_of (wall_plane agent.pos agent segment)) (filter (in_reach agent.pos agent) segments)) ≤ length segments
+length-wall_planes segments agent =
+    omega (arith, length-map (filter (in_reach agent.pos agent) segments) (λ segment. drawn_of (wall_plane agent.pos agent segment)), length-filter_le (in_reach agent.pos agent) segments)
+
 -- how many hard half-planes there are at most
 pub length-hard_planes : (segments : List Segment) (agent : Agent) → length (hard_planes segments agent) ≤ 36 + length segments
 length-hard_planes segments agent =

@@ -7,7 +7,8 @@ use Rattle.exact_algebra.proofs.Order.{gap_nonneg, product_nonneg, square_nonneg
 use Rattle.exact_algebra.proofs.Ring.{quotes, shown}
 use Rattle.exact_algebra.proofs.Sizes.{whole_root_le}
 use Rattle.fixed_vec.specs.HalfPlane.{Plane, relieved_of, whole_length}
-use Rattle.fixed_vec.specs.Point.{IsIn, IsPoint, Rational}
+use Rattle.fixed_vec.specs.Point.{IsIn, IsPoint, Rational, whole}
+use Rattle.fixed_vec.specs.Vector.{zero_vector}
 use Rattle.crowd_data.specs.RingPlanes.{ring_planes, ring_points}
 use Rattle.planar_line.specs.Relief.{CanBeRelieved, KeepBounds}
 use Rattle.planar_program.specs.Met.{IsMet}
@@ -24,6 +25,13 @@ share_keeps plane h = let fits = fits_sized (relieved_of plane 262143) 462728 (o
 
 pub shares_keep : (hard : ℕ) (planes : List Plane) → All (λ plane. Sized plane 200585) (drop hard planes) → KeepBounds hard 262143 planes
 shares_keep hard planes all = All-weaker (λ plane. Sized plane 200585) (λ plane. CanBeRelieved plane 262143) share_keeps (drop hard planes) all
+
+-- and as it is, too
+share_stands : (plane : Plane) → Sized plane 200585 → CanBeRelieved plane 0
+share_stands plane h = let fits = fits_sized (relieved_of plane 0) 200585 (omega arith) (relieved_sized plane 200585 0 h) in omega (arith, ints, fits.offset)
+
+pub shares_stand : (hard : ℕ) (planes : List Plane) → All (λ plane. Sized plane 200585) (drop hard planes) → KeepBounds hard 0 planes
+shares_stand hard planes all = All-weaker (λ plane. Sized plane 200585) (λ plane. CanBeRelieved plane 0) share_stands (drop hard planes) all
 
 -- how far a point no longer than k lies against a normal that is no longer than l
 against_le : (a b x y q k l : ℤ) → pos 0 ≤ℤ k → pos 0 ≤ℤ q → pos 0 ≤ℤ l → (x *ℤ x +ℤ y *ℤ y) ≤ℤ (k *ℤ k *ℤ (q *ℤ q)) → (a *ℤ a +ℤ b *ℤ b) ≤ℤ (l *ℤ l)
@@ -68,5 +76,19 @@ enough_relief hard soft walls speed limit are sized (p, meets) =
         inside = All-append (λ plane. IsIn plane p) hard _ meets.inside
             (All-map (λ plane. IsIn plane p) (λ plane. relieved_of plane 262143) soft
             (All-weaker (λ plane. Sized plane 200585) (λ plane. IsIn (relieved_of plane 262143) p) (λ plane h. in_relieved plane (speed - 1) p (omega arith) meets.point short h) soft sized));
+      },
+    )
+
+-- without walls, all shares so relieved have the velocity zero
+pub shares_met : (soft : List Plane) → All (λ plane. Sized plane 200585) soft → IsMet (map (λ plane. relieved_of plane 262143) soft)
+shares_met soft sized =
+    let still : Rational = whole zero_vector in
+    let point : IsPoint still = omega (arith, ints) in
+    let short : IsShort 0 still = omega (arith, ints) in (
+      still,
+      record {
+        point = point;
+        inside = All-map (λ plane. IsIn plane still) (λ plane. relieved_of plane 262143) soft
+            (All-weaker (λ plane. Sized plane 200585) (λ plane. IsIn (relieved_of plane 262143) still) (λ plane h. in_relieved plane 0 still (omega arith) point short h) soft sized);
       },
     )

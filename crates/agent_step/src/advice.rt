@@ -1,5 +1,5 @@
 // What an agent does in a step.
-ghost use Rattle.std.specs.Prelude.{◌≡◌, ◌≢◌, ◌⊎◌, ◌+◌, ◌<◌, ◌≤◌, ◌^◌, List, ◌++◌, All, length, map, take};
+ghost use Rattle.std.specs.Prelude.{◌≡◌, ◌≢◌, ◌⊎◌, ◌+◌, ◌<◌, ◌≤◌, ◌^◌, List, ◌++◌, All, IfSome, length, map, take};
 ghost use Rattle.fixed_vec.specs.HalfPlane.{Plane};
 ghost use Rattle.fixed_vec.specs.Meeting.{relieved_after};
 ghost use Rattle.fixed_vec.specs.Vector.{IsBelow};
@@ -18,11 +18,13 @@ ghost use Rattle.agent_step.specs.Among.{AdvisedAmong};
 ghost use Rattle.agent_kdtree.specs.Stands.{StandsFor};
 ghost use Rattle.agent_kdtree.specs.declared.near.Near.{Near};
 
-use crate::hard::fill;
+use crate::free::free_advice;
+use crate::hard::{fill, fill_walls};
 use crate::polygons::Polygons;
 use crate::scratch::Scratch;
 use crate::soft::push_shares;
 use agent_kdtree::{Near, Tree};
+use arrayvec::ArrayVec;
 use crowd_data::{Agent, Body, Mark, Place, Scenario};
 use fixed_vec::{HalfPlane, V2};
 use hard_plane::Ring;
@@ -53,8 +55,8 @@ fn standing(agent: &Agent, body: &Body) -> Agent
     }
 }
 
-// The mark of an agent that moves.
-fn mark_of(relief: u32) -> Mark
+/// The mark of an agent that moves.
+pub(crate) fn mark_of(relief: u32) -> Mark
     ensures feasible { relief ≡ 0 → result ≡ Feasible }
     ensures fallback { relief ≢ 0 → result ≡ Fallback }
 {
@@ -92,8 +94,40 @@ fn advise_among(planes: &[HalfPlane], hard: usize, agent: &Agent) -> Advice
     }
 }
 
-// What an agent does that sees these neighbours, but for the mark Crowded.
-fn advise_against(
+// The same, where its polygon doesn't bind it.
+fn advise_freely(
+    scenario: &Scenario,
+    polygons: &Polygons,
+    bodies: &[Body],
+    who: usize,
+    near: &[Near],
+    scratch: &mut Scratch,
+) -> Option<Advice>
+    requires who { who < length scenario.now.agents }
+    requires bodies { length bodies.now ≡ length scenario.now.agents }
+    requires polygons { polygons.now ≡ map (λ (agent : Agent). ring_planes agent.speed) scenario.now.agents }
+    requires slow { All (λ (body : Body). IsVelocity body.vel) bodies.now }
+    requires pos { IsBelow (body_at bodies.now who).pos (2 ^ 31) }
+    requires pref { IsVelocity (body_at bodies.now who).pref }
+    requires clear { All (IsClear (body_at bodies.now who).pos (agent_at scenario.now.agents who).radius) scenario.now.segments }
+    requires near { map (λ (near : Near). near.agent) near.now ≡ neighbours_of (crowd_of scenario.now.agents bodies.now) who }
+    requires room { length scenario.now.segments + 36 + length near.now ≤ scratch.old }
+    ensures moves { IfSome result (λ a. StandsStill scenario.now.segments (crowd_of scenario.now.agents bodies.now) who a.vel a.mark a.relief
+        ⊎ GivesWay scenario.now.segments (crowd_of scenario.now.agents bodies.now) who a.vel a.mark a.relief) }
+    ensures slow { IfSome result (λ a. IsVelocity a.vel) }
+    ensures room { scratch.new ≡ scratch.old }
+{
+    let agents = scenario.agents();
+    let agent = standing(&agents[who], &bodies[who]);
+    let planes = &mut scratch.planes;
+    fill_walls(planes, &agent, scenario.segments());
+    let walls = planes.items().len();
+    push_shares(planes, agents, bodies, who, near);
+    free_advice(planes.items(), walls, polygons.of(who), &agent)
+}
+
+// The same, whatever its polygon does.
+fn advise_fully(
     scenario: &Scenario,
     polygons: &Polygons,
     bodies: &[Body],
@@ -124,6 +158,36 @@ fn advise_against(
     advise_among(planes.items(), hard, &agent)
 }
 
+// What an agent does that sees these neighbours, but for the mark Crowded.
+fn advise_against(
+    scenario: &Scenario,
+    polygons: &Polygons,
+    bodies: &[Body],
+    who: usize,
+    near: &[Near],
+    scratch: &mut Scratch,
+) -> Advice
+    requires who { who < length scenario.now.agents }
+    requires bodies { length bodies.now ≡ length scenario.now.agents }
+    requires polygons { polygons.now ≡ map (λ (agent : Agent). ring_planes agent.speed) scenario.now.agents }
+    requires slow { All (λ (body : Body). IsVelocity body.vel) bodies.now }
+    requires pos { IsBelow (body_at bodies.now who).pos (2 ^ 31) }
+    requires pref { IsVelocity (body_at bodies.now who).pref }
+    requires clear { All (IsClear (body_at bodies.now who).pos (agent_at scenario.now.agents who).radius) scenario.now.segments }
+    requires near { map (λ (near : Near). near.agent) near.now ≡ neighbours_of (crowd_of scenario.now.agents bodies.now) who }
+    requires room { length scenario.now.segments + 36 + length near.now ≤ scratch.old }
+    ensures moves { StandsStill scenario.now.segments (crowd_of scenario.now.agents bodies.now) who result.vel result.mark result.relief
+        ⊎ GivesWay scenario.now.segments (crowd_of scenario.now.agents bodies.now) who result.vel result.mark result.relief }
+    ensures slow { IsVelocity result.vel }
+    ensures room { scratch.new ≡ scratch.old }
+{
+    // Most agents' polygons don't bind them, and are left out.
+    match advise_freely(scenario, polygons, bodies, who, near, scratch) {
+        Some(advice) => advice,
+        None => advise_fully(scenario, polygons, bodies, who, near, scratch),
+    }
+}
+
 /// The advice of the agent with this number in a frame with these bodies. The places are those of all
 /// agents in the frame, the tree stands for them, and the agent is clear of all segments.
 pub fn advise(
@@ -150,9 +214,10 @@ pub fn advise(
     ensures room { scratch.new ≡ scratch.old }
 {
     let agent = &scenario.agents()[who];
-    let near = tree.nearest(places, who as u32, agent.range, agent.most);
+    let mut near = ArrayVec::new();
+    tree.find(places, who as u32, agent.range, agent.most, &mut near);
     let roomy = advise_against(scenario, polygons, bodies, who, near.as_slice(), scratch);
-    if tree.misses_near(places, who as u32, near.as_slice()) {
+    if tree.is_crowded(places, who as u32, agent.range, agent.most, near.as_slice()) {
         Advice {
             mark: Mark::Crowded,
             ..roomy

@@ -6,7 +6,7 @@ pub returns-clause-bounds : goal.returns-clause-bounds
 returns-clause-bounds c = record {
   low = c.low_corner-low.ensures.inside;
   high = c.high_corner-high.ensures.inside;
-  arm = omega arith;
+  greatest_reach = omega arith;
 }
 
 pub returns-clause-first : goal.returns-clause-first
@@ -17,7 +17,7 @@ returns-clause-first c = λ p h. record {
     below = omega (arith, ints);
     above = omega (arith, ints);
   };
-  arm = omega arith;
+  greatest_reach = omega arith;
 }
 
 pub returns-clause-second : goal.returns-clause-second
@@ -28,5 +28,5 @@ returns-clause-second c = λ p h. record {
     below = omega (arith, ints);
     above = omega (arith, ints);
   };
-  arm = omega arith;
+  greatest_reach = omega arith;
 }

@@ -6,7 +6,7 @@ pub returns-clause-bounds : goal.returns-clause-bounds
 returns-clause-bounds c = record {
   low = c.low_corner-low.ensures.inside;
   high = c.high_corner-high.ensures.inside;
-  arm = omega arith;
+  greatest_reach = omega arith;
 }
 
 pub returns-clause-place : goal.returns-clause-place
@@ -17,7 +17,7 @@ returns-clause-place c = record {
     below = c.low_corner-low.ensures.second.y;
     above = c.high_corner-high.ensures.second.y;
   };
-  arm = omega arith;
+  greatest_reach = omega arith;
 }
 
 pub returns-clause-others : goal.returns-clause-others
@@ -28,5 +28,5 @@ returns-clause-others c = λ p h. record {
     below = omega (arith, ints);
     above = omega (arith, ints);
   };
-  arm = omega arith;
+  greatest_reach = omega arith;
 }

@@ -4,7 +4,7 @@ use Rattle.std.specs.List.Sorted.{IsPermutation}
 use Rattle.std.proofs.lemmas.List.Elements.{All-take, All-drop}
 use Rattle.std.proofs.lemmas.List.Sorted.{All-permutation, IsPermutation-append, IsPermutation-trans, length_permutation}
 use Rattle.agent_kdtree.specs.Boxes.{lower_boxes}
-use Rattle.agent_kdtree.proofs.Boxing.{upper_enough, leaf, boxed-bounds, joined}
+use Rattle.agent_kdtree.proofs.Coverings.{upper_enough, leaf, covered-bounds, joined}
 use Rattle.agent_kdtree.proofs.node.+build.Goals as goal
 
 pub build-requires : goal.build-requires
@@ -45,8 +45,8 @@ returns-then-order-gt-LEAF-clause-permutation t c =
     let whole : c.split_at_mut-left.result.0.now ++ c.split_at_mut-left.result.1.now ≡ c.arrange.new.order = sym c.split_at_mut-left.ensures.value in
     IsPermutation-trans _ c.arrange.new.order _ c.arrange.ensures (subst (λ (s : List ℕ). IsPermutation s (c.build.new.order ++ c.build-then-order-gt-LEAF.new.order)) whole p)
 
-pub returns-then-order-gt-LEAF-clause-boxed : goal.returns-then-order-gt-LEAF-clause-boxed
-returns-then-order-gt-LEAF-clause-boxed t c =
+pub returns-then-order-gt-LEAF-clause-covered : goal.returns-then-order-gt-LEAF-clause-covered
+returns-then-order-gt-LEAF-clause-covered t c =
     let p = IsPermutation-append _ _ _ _ c.build.ensures.permutation c.build-then-order-gt-LEAF.ensures.permutation in
     let whole : c.split_at_mut-left.result.0.now ++ c.split_at_mut-left.result.1.now ≡ c.arrange.new.order = sym c.split_at_mut-left.ensures.value in
     let q = IsPermutation-trans _ c.arrange.new.order _ c.arrange.ensures (subst (λ (s : List ℕ). IsPermutation s (c.build.new.order ++ c.build-then-order-gt-LEAF.new.order)) whole p) in
@@ -55,13 +55,13 @@ returns-then-order-gt-LEAF-clause-boxed t c =
     let h : length c.build.new.order ≡ length (c.build.new.order ++ c.build-then-order-gt-LEAF.new.order) / 2 = omega arith in
     let g : length c.build.new.boxes ≡ lower_boxes (length (c.build.new.order ++ c.build-then-order-gt-LEAF.new.order)) = omega arith in
     joined c.args.places.now c.build.new.order c.build-then-order-gt-LEAF.new.order c.union.result c.split_at_mut-first.result.0.now c.build.new.boxes c.build-then-order-gt-LEAF.new.boxes c.split_at_mut-first.ensures.front_len h g
-    c.union.ensures.bounds c.union.ensures.first c.union.ensures.second c.build.ensures.boxed c.build-then-order-gt-LEAF.ensures.boxed
+    c.union.ensures.bounds c.union.ensures.first c.union.ensures.second c.build.ensures.covered c.build-then-order-gt-LEAF.ensures.covered
 
 pub union-requires-clause-first : goal.union-requires-clause-first
-union-requires-clause-first t c = boxed-bounds c.args.places.now c.build.new.order c.build.new.boxes c.build.ensures.boxed
+union-requires-clause-first t c = covered-bounds c.args.places.now c.build.new.order c.build.new.boxes c.build.ensures.covered
 
 pub union-requires-clause-second : goal.union-requires-clause-second
-union-requires-clause-second t c = boxed-bounds c.args.places.now c.build-then-order-gt-LEAF.new.order c.build-then-order-gt-LEAF.new.boxes c.build-then-order-gt-LEAF.ensures.boxed
+union-requires-clause-second t c = covered-bounds c.args.places.now c.build-then-order-gt-LEAF.new.order c.build-then-order-gt-LEAF.new.boxes c.build-then-order-gt-LEAF.ensures.covered
 
-pub returns-else-order-gt-LEAF-clause-boxed : goal.returns-else-order-gt-LEAF-clause-boxed
-returns-else-order-gt-LEAF-clause-boxed t c = leaf c.args.places.now c.args.order.now c.bounds_of.result c.args.boxes.now c.requires.enough.some c.bounds_of.ensures.bounds c.bounds_of.ensures.covers c.if-order-gt-LEAF.false
+pub returns-else-order-gt-LEAF-clause-covered : goal.returns-else-order-gt-LEAF-clause-covered
+returns-else-order-gt-LEAF-clause-covered t c = leaf c.args.places.now c.args.order.now c.bounds_of.result c.args.boxes.now c.requires.enough.some c.bounds_of.ensures.bounds c.bounds_of.ensures.covers c.if-order-gt-LEAF.false

@@ -1,6 +1,6 @@
 use Rattle.std.proofs.Common.{◌≡◌, length, drop, take}
 use Rattle.agent_kdtree.specs.Boxes.{lower_boxes}
-use Rattle.agent_kdtree.proofs.Boxing.{lower_node, upper_node}
+use Rattle.agent_kdtree.proofs.Coverings.{lower_node, upper_node}
 use Rattle.agent_kdtree.proofs.node.halves.Goals as goal
 
 pub returns-clause-lower : goal.returns-clause-lower

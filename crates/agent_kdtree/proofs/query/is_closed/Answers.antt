@@ -7,8 +7,8 @@ use Rattle.agent_kdtree.specs.Seen.{seen_all, seen_of}
 use Rattle.agent_kdtree.proofs.Gather.{offer_beyond, offer_far}
 use Rattle.agent_kdtree.proofs.query.is_closed.Goals as goal
 
-pub returns-then-far-reach-clause-closed : goal.returns-then-far-reach-clause-closed
-returns-then-far-reach-clause-closed c = λ _ places k h. offer_beyond places c.args.query.now k (seen_all c.args.best.now.items) (omega (arith, c.reach.ensures))
+pub returns-then-far-squared_range-clause-closed : goal.returns-then-far-squared_range-clause-closed
+returns-then-far-squared_range-clause-closed c = λ _ places k h. offer_beyond places c.args.query.now k (seen_all c.args.best.now.items) (omega (arith, c.squared_range.ensures))
 
 pub returns-then-full-gt0-clause-closed : goal.returns-then-full-gt0-clause-closed
 returns-then-full-gt0-clause-closed c = λ t places k h.

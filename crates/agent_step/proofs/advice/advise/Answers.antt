@@ -9,19 +9,22 @@ use Rattle.agent_step.proofs.CrowdPlaces.{all_placed, body_near, length-places}
 use Rattle.agent_step.proofs.Sight.{crowded_misses, misses_crowded, numbers_seen}
 use Rattle.agent_step.proofs.advice.advise.Goals as goal
 
-pub nearest-near-requires-clause-placed : goal.nearest-near-requires-clause-placed
-nearest-near-requires-clause-placed c =
+pub find-requires-clause-placed : goal.find-requires-clause-placed
+find-requires-clause-placed c =
     all_placed c.args.scenario.now.agents c.args.bodies.now c.args.places.now c.requires.bodies c.requires.places c.agents.ensures.valid.agents c.requires.near
 
-pub nearest-near-requires-clause-who : goal.nearest-near-requires-clause-who
-nearest-near-requires-clause-who c = omega (arith, length-places c.args.scenario.now.agents c.args.bodies.now c.args.places.now c.requires.bodies c.requires.places, c.requires.who)
+pub find-requires-clause-who : goal.find-requires-clause-who
+find-requires-clause-who c = omega (arith, length-places c.args.scenario.now.agents c.args.bodies.now c.args.places.now c.requires.bodies c.requires.places, c.requires.who)
 
-pub misses_near-requires-clause-placed : goal.misses_near-requires-clause-placed
-misses_near-requires-clause-placed c =
+pub is_crowded-requires-clause-placed : goal.is_crowded-requires-clause-placed
+is_crowded-requires-clause-placed c =
     all_placed c.args.scenario.now.agents c.args.bodies.now c.args.places.now c.requires.bodies c.requires.places c.agents.ensures.valid.agents c.requires.near
 
-pub misses_near-requires-clause-who : goal.misses_near-requires-clause-who
-misses_near-requires-clause-who c = omega (arith, length-places c.args.scenario.now.agents c.args.bodies.now c.args.places.now c.requires.bodies c.requires.places, c.requires.who)
+pub is_crowded-requires-clause-who : goal.is_crowded-requires-clause-who
+is_crowded-requires-clause-who c = omega (arith, length-places c.args.scenario.now.agents c.args.bodies.now c.args.places.now c.requires.bodies c.requires.places, c.requires.who)
+
+pub is_crowded-requires-clause-near : goal.is_crowded-requires-clause-near
+is_crowded-requires-clause-near c = ap (map seen_of) c.as_slice-2.ensures.value ∙ c.find.ensures
 
 pub advise_against-roomy-requires-clause-pos : goal.advise_against-roomy-requires-clause-pos
 advise_against-roomy-requires-clause-pos c =
@@ -38,10 +41,10 @@ advise_against-roomy-requires-clause-near c =
     let most : (agent_at c.agents.result.now who).most ≡ (agent_at (crowd_of agents bodies) who).most =
     ap (λ (agents : List Agent). (agent_at agents who).most) c.agents.ensures.value ∙ sym (ap (λ (agent : Agent). agent.most) here) in
     numbers_seen (crowd_of agents bodies) who (agent_at c.agents.result.now who) c.args.places.now c.as_slice.result.now c.requires.places range most
-    (ap (map seen_of) c.as_slice.ensures.value ∙ c.nearest-near.ensures)
+    (ap (map seen_of) c.as_slice.ensures.value ∙ c.find.ensures)
 
-pub returns-then-misses_near-clause-advice : goal.returns-then-misses_near-clause-advice
-returns-then-misses_near-clause-advice c =
+pub returns-then-is_crowded-clause-advice : goal.returns-then-is_crowded-clause-advice
+returns-then-is_crowded-clause-advice c =
     let agents = c.args.scenario.now.agents in
     let bodies = c.args.bodies.now in
     let who = c.args.who in
@@ -51,11 +54,11 @@ returns-then-misses_near-clause-advice c =
     let most : (agent_at c.agents.result.now who).most ≡ (agent_at (crowd_of agents bodies) who).most =
     ap (λ (agents : List Agent). (agent_at agents who).most) c.agents.ensures.value ∙ sym (ap (λ (agent : Agent). agent.most) here) in
     let crowded = misses_crowded (crowd_of agents bodies) who (agent_at c.agents.result.now who) c.args.places.now c.as_slice-2.result.now c.requires.places range most
-    (ap (map seen_of) c.as_slice-2.ensures.value ∙ c.nearest-near.ensures) (c.misses_near.ensures.0 c.if-misses_near.true) in
+    (ap (map seen_of) c.as_slice-2.ensures.value ∙ c.find.ensures) (c.is_crowded.ensures.0 c.if-is_crowded.true) in
     (c.advise_against-roomy.result.mark, c.advise_against-roomy.ensures.moves, crowded_mark (crowd_of agents bodies) who _ crowded)
 
-pub returns-else-misses_near-clause-advice : goal.returns-else-misses_near-clause-advice
-returns-else-misses_near-clause-advice c =
+pub returns-else-is_crowded-clause-advice : goal.returns-else-is_crowded-clause-advice
+returns-else-is_crowded-clause-advice c =
     let agents = c.args.scenario.now.agents in
     let bodies = c.args.bodies.now in
     let who = c.args.who in
@@ -65,8 +68,8 @@ returns-else-misses_near-clause-advice c =
     let most : (agent_at c.agents.result.now who).most ≡ (agent_at (crowd_of agents bodies) who).most =
     ap (λ (agents : List Agent). (agent_at agents who).most) c.agents.ensures.value ∙ sym (ap (λ (agent : Agent). agent.most) here) in
     let missed = crowded_misses (crowd_of agents bodies) who (agent_at c.agents.result.now who) c.args.places.now c.as_slice-2.result.now c.requires.places range most
-    (ap (map seen_of) c.as_slice-2.ensures.value ∙ c.nearest-near.ensures) in (
+    (ap (map seen_of) c.as_slice-2.ensures.value ∙ c.find.ensures) in (
       c.advise_against-roomy.result.mark,
       c.advise_against-roomy.ensures.moves,
-      plain_mark (crowd_of agents bodies) who _ (λ crowded. let t = c.misses_near.ensures.1 (missed crowded) in cc (t, c.if-misses_near.false)),
+      plain_mark (crowd_of agents bodies) who _ (λ crowded. let t = c.is_crowded.ensures.1 (missed crowded) in cc (t, c.if-is_crowded.false)),
     )
