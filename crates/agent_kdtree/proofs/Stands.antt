@@ -12,6 +12,7 @@ use Rattle.agent_kdtree.specs.declared.bounds.Bounds.{Bounds}
 use Rattle.agent_kdtree.specs.declared.tree.Tree.{Tree}
 use Rattle.agent_kdtree.specs.Boxes.{IsCovered, IsEnough, IsNode}
 use Rattle.agent_kdtree.specs.ByCell.{HasNumbers, IsByCell}
+use Rattle.agent_kdtree.specs.Placed.{IsPlaced}
 use Rattle.agent_kdtree.specs.Stands.{StandsFor}
 
 pub numbers-contain : (n k : ℕ) → k < n → Contains (numbers n) k
@@ -47,8 +48,9 @@ root tree places h = record {
 }
 
 pub stands_for : (tree : Tree) (places : List Place) (order : List ℕ) (boxes : List Bounds) → tree.order.items ≡ order → tree.boxes.items ≡ boxes → IsPermutation (numbers (length places)) order
-    → IsEnough (length places) (length boxes) → IsCovered places order boxes → HasNumbers tree.layout (length places) → IsByCell tree.layout places → StandsFor tree places
-stands_for tree places order boxes e f p n b h l = record {
+    → IsEnough (length places) (length boxes) → All IsPlaced places → IsCovered places order boxes → HasNumbers tree.layout (length places) → IsByCell tree.layout places → StandsFor tree places
+stands_for tree places order boxes e f p n a b h l = record {
+  placed = a;
   room = record {
     order = subst (λ (t : List ℕ). IsPermutation (numbers (length places)) t) (sym e) p;
     boxes = subst (λ (t : List Bounds). IsEnough (length places) (length t)) (sym f) n;

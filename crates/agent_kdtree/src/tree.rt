@@ -96,7 +96,6 @@ impl Tree {
     /// and `most` at most 64.
     pub fn nearest(&self, places: &[Place], who: u32, range: u32, most: u32) -> ArrayVec<Near, 64>
         requires stands { StandsFor self.now places.now }
-        requires placed { All IsPlaced places.now }
         requires who { who < length places.now }
         requires range { range ≤ 65536 }
         requires most { most ≤ 64 }
@@ -118,7 +117,6 @@ impl Tree {
         best: &mut ArrayVec<Near, 64>,
     )
         requires stands { StandsFor self.now places.now }
-        requires placed { All IsPlaced places.now }
         requires who { who < length places.now }
         requires range { range ≤ 65536 }
         requires most { most ≤ 64 }
@@ -150,7 +148,6 @@ impl Tree {
     /// Whether some other near agent is not in the list: one that the agent could touch within a step.
     pub fn misses_near(&self, places: &[Place], who: u32, near: &[Near]) -> bool
         requires stands { StandsFor self.now places.now }
-        requires placed { All IsPlaced places.now }
         requires who { who < length places.now }
         ensures { IsTrue result ↔ MissesNear places.now who (map (λ (n : Near). n.agent) near.now) }
     {
@@ -167,7 +164,6 @@ impl Tree {
         near: &[Near],
     ) -> bool
         requires stands { StandsFor self.now places.now }
-        requires placed { All IsPlaced places.now }
         requires who { who < length places.now }
         requires range { range ≤ 65536 }
         requires near { map seen_of near.now ≡ neighbours places.now who range most }

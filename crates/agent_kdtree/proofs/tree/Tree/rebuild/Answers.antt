@@ -25,7 +25,7 @@ returns c =
     let l : length c.build.new.order ≡ c.args.self.now.order.len = omega arith in
     let m : length c.build.new.boxes ≡ c.args.self.now.boxes.len = omega arith in
     let k : length c.build.new.boxes ≡ length c.args.self.now.boxes.items = omega (arith, ap (λ (t : List Bounds). length t) c.deref_mut-2.ensures.value) in
-    record { stands = stands_for _ c.args.places.now c.build.new.order c.build.new.boxes (with_items_is c.args.self.now.order c.build.new.order l) (with_items_is c.args.self.now.boxes c.build.new.boxes m) q (rw k c.requires.room.boxes) c.build.ensures.covered c.rebuild.ensures.numbers c.rebuild.ensures.by_cell }
+    record { stands = stands_for _ c.args.places.now c.build.new.order c.build.new.boxes (with_items_is c.args.self.now.order c.build.new.order l) (with_items_is c.args.self.now.boxes c.build.new.boxes m) q (rw k c.requires.room.boxes) c.requires.placed c.build.ensures.covered c.rebuild.ensures.numbers c.rebuild.ensures.by_cell }
 
 pub rebuild-requires-clause-permutation : goal.rebuild-requires-clause-permutation
 rebuild-requires-clause-permutation c =
