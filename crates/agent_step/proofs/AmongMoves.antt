@@ -51,6 +51,18 @@ pub shares_are : (crowd : List Agent) (who : ℕ) (near : List Near) → map (λ
     → map (λ (near : Near). share_against crowd who near.agent) near ≡ soft_planes crowd who
 shares_are crowd who near e = sym (map-map (share_against crowd who) (λ (near : Near). near.agent) near) ∙ ap (map (share_against crowd who)) e
 
+-- they stand behind the walls
+pub shares_behind : (crowd seen : List Agent) (who : ℕ) (near : List Near) (walls first planes : List Plane) → seen ≡ crowd → map (λ (near : Near). near.agent) near ≡ neighbours_of crowd who
+    → first ≡ walls → planes ≡ walls ++ map (λ (near : Near). share_against seen who near.agent) near → drop (length first) planes ≡ soft_planes crowd who
+shares_behind crowd seen who near walls first planes e f g h =
+    ap (drop (length first)) h ∙ drop_at walls (map (λ (near : Near). share_against seen who near.agent) near) (length first) (sym (ap length g))
+    ∙ ap (λ (seen : List Agent). map (λ (near : Near). share_against seen who near.agent) near) e
+    ∙ shares_are crowd who near f
+
+-- with no half-plane before them all are relieved
+pub relieved_shares : (planes soft : List Plane) (hard : ℕ) → hard ≡ 0 → drop hard planes ≡ soft → relieved_after hard 262143 planes ≡ map (λ plane. relieved_of plane 262143) soft
+relieved_shares planes soft hard e f = rw (e, sym f) (rw e refl)
+
 -- the half-planes that the code has are those of the agent, the hard ones first
 pub record IsListed (segments : List Segment) (crowd : List Agent) (who hard : ℕ) (planes : List Plane) : Type 0 where
   pub are : planes ≡ hard_planes segments (agent_at crowd who) ++ soft_planes crowd who

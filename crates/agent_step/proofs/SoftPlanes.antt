@@ -19,7 +19,7 @@ use Rattle.crowd_data.proofs.Crowds.{agent_at-crowd_of}
 use Rattle.pair_plane.proofs.Shares.{higher_sized, lower_sized}
 use Rattle.pair_plane.proofs.Sized.{Sized, drawn_sized}
 use Rattle.agent_step.specs.Sight.{ArePresent, IsSeen}
-use Rattle.agent_step.proofs.CrowdPlaces.{length-crowd_of}
+use Rattle.crowd_data.proofs.Crowds.{length-crowd_of}
 use Rattle.agent_step.proofs.Sight.{neighbours_seen}
 
 -- ---- pairs
@@ -60,6 +60,9 @@ standing_build agent body h = record {
   some_wall_horizon = h.some_wall_horizon;
   wall_horizon = h.wall_horizon;
 }
+
+pub present_as : (a b : List Agent) (x y : List Body) → a ≡ b → x ≡ y → ArePresent b y → ArePresent a x
+present_as a b x y e f h = subst (λ (a : List Agent). ArePresent a x) (sym e) (subst (λ (x : List Body). ArePresent b x) (sym f) h)
 
 -- which share is taken
 chosen : (t : Bool) (x y : Plane) → t ≡ true → drawn_of (cond t x y) ≡ drawn_of x

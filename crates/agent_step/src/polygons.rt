@@ -40,8 +40,8 @@ fn polygon(speed: u32) -> [HalfPlane; 36]
 }
 
 impl Polygons {
-    /// The speed polygons of these agents, which are within the limits of a scenario. `NoMemory` is
-    /// answered for want of memory alone.
+    /// The speed polygons of these agents, which are within the limits of a scenario. `NoMemory` comes
+    /// only where memory runs out (documented, not proved).
     pub fn open(alloc: Global, agents: &[Agent]) -> Result<Polygons, NoMemory>
         requires { All IsAgent agents.now }
         ensures { IfOk result (λ p. p ≡ map (λ (agent : Agent). ring_planes agent.speed) agents.now) }

@@ -21,15 +21,17 @@ impl Model for Scratch {
 }
 
 impl Scratch {
-    /// Room for an agent among so many segments, 0 to 2,000 of them. Each can make a half-plane, as each
-    /// of at most 64 neighbours does, and the speed polygon makes 36. `NoMemory` is answered for want of
-    /// memory alone.
+    /// Room for an agent among so many segments. Each can make a half-plane, as each of at most 64
+    /// neighbours does, and the speed polygon makes 36. `NoMemory` comes only where memory runs out
+    /// (documented, not proved).
     pub fn open(alloc: Global, segments: usize) -> Result<Scratch, NoMemory>
-        requires { segments ≤ 2000 }
         ensures { IfOk result (λ s. segments + 100 ≤ s) }
     {
+        let Some(room) = segments.checked_add(100) else {
+            return Err(NoMemory);
+        };
         Ok(Scratch {
-            planes: List::with_room(alloc, segments + 100)?,
+            planes: List::with_room(alloc, room)?,
         })
     }
 }

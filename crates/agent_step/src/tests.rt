@@ -6,7 +6,7 @@ ghost use Rattle.crowd_data.specs.Advice.{place_of};
 ghost use Rattle.crowd_data.specs.Limits.{IsAgent, IsPosition, IsSegment, IsVelocity};
 ghost use Rattle.crowd_data.specs.Scenario.{IsValid};
 
-use crate::{Advice, Polygons, Scratch, advise};
+use crate::{Advice, FrozenCrowd, Polygons, Scratch, advise};
 use agent_kdtree::Tree;
 use crowd_data::{Agent, Mark, Place, Scenario, Segment, clear, first_frame};
 use fixed_vec::{List, NoMemory, V2, dot};
@@ -64,15 +64,8 @@ fn first_advice(alloc: Global, scenario: &Scenario, who: usize) -> Result<Advice
     let frame = first_frame(alloc, scenario)?;
     let places = places_of(alloc, scenario.agents())?;
     let tree = tree_over(alloc, places.items())?;
-    Ok(advise(
-        scenario,
-        &polygons,
-        frame.bodies.items(),
-        places.items(),
-        &tree,
-        who,
-        &mut scratch,
-    ))
+    let crowd = FrozenCrowd::of(scenario, &frame, &polygons, places.items(), &tree);
+    Ok(advise(&crowd, who, &mut scratch))
 }
 
 fn scenario_of(

@@ -18,5 +18,9 @@ returns-clause-advised c = inr (record {
   fallback = c.mark_of.ensures.fallback;
 })
 
-pub returns-clause-slow : goal.returns-clause-slow
-returns-clause-slow c = rw c.rounded.ensures (short_velocity _ c.args.agent.now.speed c.requires.build.speed c.speed_law.ensures.within_speed)
+pub returns-clause-limits : goal.returns-clause-limits
+returns-clause-limits c = record {
+  slow = rw c.rounded.ensures (short_velocity _ c.args.agent.now.speed c.requires.build.speed c.speed_law.ensures.within_speed);
+  speed = rw c.rounded.ensures c.speed_law.ensures.within_speed;
+  relief = c.in-Some.ensures.greatest;
+}

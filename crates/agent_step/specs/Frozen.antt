@@ -1,0 +1,37 @@
+-- The one state that all advice of a step is taken from.
+use Rattle.std.specs.Prelude.{◌≡◌, ◌≤◌, ℕ, pos, ◌*ℤ◌, ◌≤ℤ◌, List, map}
+use Rattle.fixed_vec.specs.declared.vector.V2.{V2}
+use Rattle.fixed_vec.specs.HalfPlane.{Plane}
+use Rattle.fixed_vec.specs.Vector.{square}
+use Rattle.crowd_data.specs.declared.agent.Agent.{Agent}
+use Rattle.crowd_data.specs.declared.pair.Place.{Place}
+use Rattle.crowd_data.specs.Advice.{place_of}
+use Rattle.crowd_data.specs.Limits.{IsVelocity}
+use Rattle.crowd_data.specs.Present.{IsPresent}
+use Rattle.crowd_data.specs.RingPlanes.{ring_planes}
+use Rattle.crowd_data.specs.Run.{Snapshot, crowd_of}
+use Rattle.crowd_data.specs.Scenario.{Parts}
+use Rattle.agent_kdtree.specs.declared.tree.Tree.{Tree}
+use Rattle.agent_kdtree.specs.Stands.{StandsFor}
+
+-- a scenario and a frame of its run
+pub record FrozenState : Type 0 where
+  pub scenario : Parts
+  pub frame : Snapshot
+
+-- the agents as they stand in the frame
+abbrev pub agents_in : FrozenState → List Agent
+agents_in state = crowd_of state.scenario.agents state.frame.bodies
+
+-- a frame of a scenario's run, with the speed polygons of its agents, their places in the frame and a tree over these
+pub record IsFrozen (scenario : Parts) (frame : Snapshot) (made : List (List Plane)) (standing : List Place) (index : Tree) : Type 0 where
+  pub present : IsPresent scenario frame
+  pub polygons : made ≡ map (λ (agent : Agent). ring_planes agent.speed) scenario.agents
+  pub places : standing ≡ map place_of (crowd_of scenario.agents frame.bodies)
+  pub tree : StandsFor index standing
+
+-- a velocity within the limits and no longer than a speed, and a relief up to the greatest one
+pub record KeepsLimits (most : ℕ) (vel : V2) (given : ℕ) : Type 0 where
+  pub slow : IsVelocity vel
+  pub speed : square vel ≤ℤ (pos most *ℤ pos most)
+  pub relief : given ≤ 262143
