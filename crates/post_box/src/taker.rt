@@ -88,11 +88,18 @@ impl Taker {
         requires poster { IsPosterOf posts.now poster }
         ensures { self.new ≡ after_taking_back self.old poster }
     {
-        posts.queue.absorb::<PosterMaking>(&mut self.pass, poster.pass);
+        posts
+            .queue
+            .absorb::<PosterMaking>(&mut self.pass, poster.pass);
     }
 
     // What is left in the queue, oldest first.
-    pub(crate) fn take_rest<R: Wait>(&mut self, rt: &R, alloc: Global, posts: &PostBox) -> Result<List<Post>, NoMemory>
+    pub(crate) fn take_rest<R: Wait>(
+        &mut self,
+        rt: &R,
+        alloc: Global,
+        posts: &PostBox,
+    ) -> Result<List<Post>, NoMemory>
         requires { IsTakerOf posts.now self.old }
         ensures { IfOk result (λ rest. IsWaiting self.old.controllers self.old.agents self.old.posts self.old.final_posts rest.items) }
     {
