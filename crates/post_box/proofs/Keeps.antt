@@ -13,9 +13,9 @@ use Rattle.crowd_data.specs.Limits.{IsPost}
 use Rattle.post_box.specs.declared.view.ControllerPosts.{ControllerPosts}
 use Rattle.post_box.specs.declared.view.Known.{Known}
 use Rattle.post_box.specs.declared.view.Role.TheVariants.{Poster, Taker, Spent}
-use Rattle.post_box.specs.History.{IsBoxPost, IsHistory, posts_by}
+use Rattle.post_box.specs.History.{IsBoxPost, IsHistory, IsWaiting, posts_by}
 use Rattle.post_box.specs.Views.{poster_view, spent_view, taker_view, with_final}
-use Rattle.post_box.specs.Rule.{Fits, FitsPoster, FitsTaker, IsFinal, IsKept, IsWaiting, Standing}
+use Rattle.post_box.specs.Rule.{Fits, FitsPoster, FitsTaker, IsFinal, IsKept, QueueState}
 use Rattle.post_box.proofs.Histories.{IsHistory-push, IsHistory-wider, next_valid, other_more, own_more, posts_by-none}
 
 -- a view that joined the others is the last one
@@ -47,21 +47,21 @@ spent-ne-poster e = cc
 spent-ne-taker : Spent ≢ Taker
 spent-ne-taker e = cc
 
-fits_spent : (now : Standing) (pass : ℕ) → Fits now pass spent_view
+fits_spent : (now : QueueState) (pass : ℕ) → Fits now pass spent_view
 fits_spent now pass = record { taker = λ e. absurd (spent-ne-taker e); poster = λ e. absurd (spent-ne-poster e) }
 
-fits_taker : (now : Standing) (pass : ℕ) (v : Known) → v.role ≡ Taker → FitsTaker now pass v → Fits now pass v
+fits_taker : (now : QueueState) (pass : ℕ) (v : Known) → v.role ≡ Taker → FitsTaker now pass v → Fits now pass v
 fits_taker now pass v role fits = record { taker = λ _. fits; poster = λ e. absurd (poster-ne-taker (sym e ∙ role)) }
 
-fits_poster : (now : Standing) (pass : ℕ) (v : Known) → v.role ≡ Poster → FitsPoster now pass v → Fits now pass v
+fits_poster : (now : QueueState) (pass : ℕ) (v : Known) → v.role ≡ Poster → FitsPoster now pass v → Fits now pass v
 fits_poster now pass v role fits = record { taker = λ e. absurd (poster-ne-taker (sym role ∙ e)); poster = λ _. fits }
 
 -- a pass beside the taker's is not the taker's; it is a poster's or spent
-fits_beside : (now after : Standing) (pass j : ℕ) (u : Known) → Fits now j u → pass ≡ now.taker → j ≢ pass → (FitsPoster now j u → FitsPoster after j u) → Fits after j u
+fits_beside : (now after : QueueState) (pass j : ℕ) (u : Known) → Fits now j u → pass ≡ now.taker → j ≢ pass → (FitsPoster now j u → FitsPoster after j u) → Fits after j u
 fits_beside now after pass j u fits mine apart poster = record { taker = λ e. absurd (apart ((fits.taker e).only ∙ sym mine)); poster = λ e. poster (fits.poster e) }
 
 -- two controllers whose posters have different passes are different
-apart_by_seats : (now : Standing) (a b : ℕ) (s : Option ℕ) (p : ℕ) → now.seats a ≡ s → now.seats b ≡ Some p → s ≢ Some p → a ≢ b
+apart_by_seats : (now : QueueState) (a b : ℕ) (s : Option ℕ) (p : ℕ) → now.seats a ≡ s → now.seats b ≡ Some p → s ≢ Some p → a ≢ b
 apart_by_seats now a b s p at there ne e = ne (sym at ∙ (ap now.seats e ∙ there))
 
 none-ne-some : (p : ℕ) → None ≢ Some p
@@ -73,7 +73,7 @@ some-ne-some j p ne e = ne (cc)
 -- the first pass is the taker's
 pub begins : IsKept [] (taker_view 0 0 ∷ [])
 begins =
-    let now : Standing = record { history = []; taken = []; taker = 0; seats = λ _. None; controllers = 0; agents = 0 } in
+    let now : QueueState = record { history = []; taken = []; taker = 0; seats = λ _. None; controllers = 0; agents = 0 } in
     record {
       now = now;
       whole = refl;
@@ -87,7 +87,7 @@ pub learns_agents : (pass : ℕ) (v : Known) (more : ℕ) → v.role ≡ Taker �
 learns_agents pass v more role none no_final le items views k at =
     let w : Known = record v { agents = more } in
     let mine = (k.each pass v at).taker role in
-    let after : Standing = record k.now { agents = more } in
+    let after : QueueState = record k.now { agents = more } in
     record {
       now = after;
       whole = k.whole;
@@ -109,7 +109,7 @@ makes pass v role items views k at =
     let next = k.now.controllers in
     let place = length (set views pass w) in
     let seats : ℕ → Option ℕ = λ c. (if eqb c next then Some place else k.now.seats c) in
-    let after : Standing = record k.now { seats = seats; controllers = next + 1 } in
+    let after : QueueState = record k.now { seats = seats; controllers = next + 1 } in
     let same : (c : ℕ) → c < next → seats c ≡ k.now.seats c = λ c below. (let apart : eqb c next ≡ false = ne_eqb c next (λ e. omega arith) in rw apart refl) in
     record {
       now = after;
@@ -143,7 +143,7 @@ sends n pass v post role own next valid items views _ k at =
     let mine = (k.each pass v at).poster role in
     let before = k.now.history in
     let history : List Post = before ++ post ∷ [] in
-    let after : Standing = record k.now { history = history } in
+    let after : QueueState = record k.now { history = history } in
     let others : (c : ℕ) → c ≢ v.controller → posts_by c history ≡ posts_by c before = λ c apart. other_more c before post (λ e. apart (sym e ∙ own)) in
     let place : post.seq ≡ length (posts_by post.controller before) = next ∙ (ap length mine.posts ∙ ap (λ (c : ℕ). length (posts_by c before)) (sym own)) in
     let fine : IsBoxPost k.now.controllers k.now.agents post = record { controller = (let l = mine.controller in omega arith); valid = subst (λ (a : ℕ). IsPost a post) mine.agents valid } in (
@@ -187,7 +187,7 @@ takes pass v role post items views k at =
     let w : Known = record v { posts = v.posts ++ post ∷ [] } in
     let mine = (k.each pass v at).taker role in
     let taken : List Post = k.now.taken ++ post ∷ [] in
-    let after : Standing = record k.now { taken = taken } in
+    let after : QueueState = record k.now { taken = taken } in
     let fine : IsBoxPost k.now.controllers k.now.agents post = next_valid k.now.controllers k.now.agents k.now.history k.now.taken items post k.legal.each k.whole in (
       w,
       record {
@@ -216,7 +216,7 @@ takes_back pass v other u role posts items views k at ne there =
     let mine = (k.each pass v at).taker role in
     let theirs = (k.each other u was).poster posts in
     let seats : ℕ → Option ℕ = λ c. (if eqb c u.controller then None else k.now.seats c) in
-    let after : Standing = record k.now { seats = seats } in
+    let after : QueueState = record k.now { seats = seats } in
     let gone : seats u.controller ≡ None = (let here : eqb u.controller u.controller ≡ true = eq-eqb u.controller u.controller refl in rw here refl) in
     let same : (c : ℕ) → c ≢ u.controller → seats c ≡ k.now.seats c = λ c away. (let apart : eqb c u.controller ≡ false = ne_eqb c u.controller away in rw apart refl) in
     let stay : (c : ℕ) → k.now.seats c ≡ None → seats c ≡ None = λ c none. dite (ℕ_discrete c u.controller) (λ e. ap seats e ∙ gone) (λ away. same c away ∙ none) in

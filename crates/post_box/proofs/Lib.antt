@@ -1,3 +1,3 @@
 pub mod Histories
 pub mod Keeps
-pub mod Moving
+pub mod Transfers

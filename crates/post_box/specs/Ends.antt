@@ -1,11 +1,12 @@
 -- What a clause sees of a box, of its posters and of its taker.
 use Rattle.std.specs.Prelude.{◌≡◌, ℕ, List, [], ◌∷◌, ◌++◌, All, length}
 use Rattle.std.specs.declared.alloc.Global.{Global}
+use Rattle.crossbeam_queue.specs.Fifo.{Held}
 use Rattle.crossbeam_queue.specs.SegTies.{SegId}
 use Rattle.fixed_vec.specs.declared.vector.V2.{V2}
 use Rattle.crowd_data.specs.declared.post.Post.{Post}
 use Rattle.post_box.specs.declared.view.ControllerPosts.{ControllerPosts}
-use Rattle.post_box.specs.History.{IsBoxPost, posts_by}
+use Rattle.post_box.specs.History.{IsBoxPost, IsWaiting, posts_by}
 
 -- a box: which queue it is
 pub record BoxState : Type 0 where
@@ -63,12 +64,20 @@ final_of poster = record { controller = poster.controller; posts = poster.posts 
 abbrev pub after_taking_back : TakerState → PosterState → TakerState
 after_taking_back taker poster = record taker { final_posts = taker.final_posts ++ final_of poster ∷ [] }
 
--- the taker moved the same posts to the end of a list, each one of the box's
-pub record Moves (old new : TakerState) (before after : List Post) : Type 0 where
+-- the taker took some posts, each one of the box's, and put the same posts at the end of a list
+pub record Transfers (old new : TakerState) (before after : List Post) : Type 0 where
   pub posts : List Post
   pub list : after ≡ before ++ posts
   pub taker : new ≡ after_taking old posts
   pub each : All (IsBoxPost old.controllers old.agents) posts
+
+-- these posts can wait in the queue behind what the taker took: together they are a history of the box, and it has all posts of each poster that was taken back
+abbrev pub IsBehind : TakerState → List Post → Type 0
+IsBehind taker waiting = IsWaiting taker.controllers taker.agents taker.posts taker.final_posts waiting
+
+-- at one moment no post was waiting behind what the taker took
+abbrev pub WasEmpty : TakerState → Type 0
+WasEmpty taker = Held 0 (IsBehind taker)
 
 -- of each poster, the posts of its controller are what it posted, each once, unchanged and in its order
 abbrev pub AreOnceInOrder : List PosterState → List Post → Type 0

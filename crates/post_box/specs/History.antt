@@ -1,8 +1,9 @@
 -- The history of posts: one list that only grows. What the taker took is the beginning of it.
-use Rattle.std.specs.Prelude.{◌≡◌, ℕ, ◌<◌, ◌==◌, List, map, filter, length, All}
+use Rattle.std.specs.Prelude.{◌≡◌, ℕ, ◌<◌, ◌==◌, List, ◌++◌, map, filter, length, All}
 use Rattle.std.specs.List.{range_with_len}
 use Rattle.crowd_data.specs.declared.post.Post.{Post}
 use Rattle.crowd_data.specs.Limits.{IsPost}
+use Rattle.post_box.specs.declared.view.ControllerPosts.{ControllerPosts}
 
 -- the posts of a controller, in order
 abbrev pub posts_by : ℕ → List Post → List Post
@@ -21,3 +22,8 @@ pub record IsBoxPost (controllers agents : ℕ) (post : Post) : Type 0 where
 pub record IsHistory (controllers agents : ℕ) (history : List Post) : Type 0 where
   pub each : All (IsBoxPost controllers agents) history
   pub seqs : (controller : ℕ) → AreConsecutive (posts_by controller history)
+
+-- these posts can wait behind those that were taken: together they are a history, and it has all posts of each controller in the list
+pub record IsWaiting (controllers agents : ℕ) (taken : List Post) (final : List ControllerPosts) (waiting : List Post) : Type 0 where
+  pub history : IsHistory controllers agents (taken ++ waiting)
+  pub final_posts : All (λ (by : ControllerPosts). posts_by by.controller (taken ++ waiting) ≡ by.posts) final

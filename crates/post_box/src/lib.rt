@@ -1,6 +1,7 @@
-//! A box of posts: controllers on threads of their own post preferred velocities into one queue without a lock, and one taker takes
-//! them out. `Poster::post` answers with a receipt once a post is in the queue, `Taker::take` appends what waits to a list, and `finish`
-//! hands out the rest. No post is lost, doubled or changed, and those of a controller come out in its order.
+//! A box of posts: controllers on threads of their own post preferred velocities into one queue without a
+//! lock, and one taker takes them out. `Poster::post` answers with a receipt once a post is in the queue,
+//! `Taker::take` appends what waits to a list, and `finish` hands out the rest. No post is lost, doubled or
+//! changed, and those of a controller come out in its order.
 #![tactic(auto)]
 
 mod limits;

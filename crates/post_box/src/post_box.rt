@@ -27,9 +27,9 @@ impl Model for PostBox {
     ghost view = { λ b. record { queue = b.queue } };
 }
 
-/// An empty box for so many controllers and agents, numbered from 0, with a poster for each controller in order, which may post `most`
-/// times, and its taker. There are at most `MOST_CONTROLLERS` controllers. `NoMemory` is answered where memory runs out (documented, not
-/// proved).
+/// An empty box for so many controllers and agents, both numbered from 0, with a poster for each
+/// controller in order, which may post `most` times, and with its taker. There are at most
+/// `MOST_CONTROLLERS` controllers. `NoMemory` is answered where memory runs out (documented, not proved).
 pub fn open(
     alloc: Global,
     controllers: u32,
@@ -50,9 +50,10 @@ pub fn open(
     Ok((PostBox { queue }, posters, Taker::with_pass(pass)))
 }
 
-/// Ends a box, and hands out the posts that were not taken, oldest first. The posters and the taker must be the box's own. Of each poster
-/// that is handed in, the posts that the taker took and those that are left are, joined, what it posted. `NoMemory` is answered where
-/// memory runs out (documented, not proved), and then what was left is lost.
+/// Ends a box, and hands out the posts that were not taken, oldest first. The posters and the taker must
+/// be the box's own. Of each poster that is handed in, the posts that the taker took and those that are
+/// left are, joined, what it posted. `NoMemory` is answered where memory runs out (documented, not
+/// proved); the box is gone then too, and with it what was left.
 pub fn finish<R: Wait>(
     rt: &R,
     alloc: Global,

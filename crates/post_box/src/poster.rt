@@ -33,8 +33,8 @@ pub enum PostFault {
     NoMemory,
 }
 
-/// Posts the preferred velocities that one controller wants its agents to have. A clause sees what it posted: the view of its pass on
-/// the queue, which a push alone makes longer.
+/// Posts the preferred velocities that one controller wants its agents to have. A clause sees what it
+/// posted, by the view of its pass on the queue, which a push alone makes longer.
 #[derive(Drop)]
 pub struct Poster {
     pub(crate) pass: Pass,
@@ -93,8 +93,9 @@ impl Poster {
         }
     }
 
-    /// Posts a preferred velocity, in units per step, for an agent. After the receipt the post is in the queue, and will be taken; a
-    /// refusal changes nothing. The box must be the poster's own. `NoMemory` is answered where memory runs out (documented, not proved).
+    /// Posts a preferred velocity, in units per step, for an agent. With the receipt the post is in the
+    /// queue; a refusal changes nothing. The box must be the poster's own. `NoMemory` is answered where
+    /// memory runs out (documented, not proved).
     pub fn post<R: Wait>(
         &mut self,
         rt: &R,

@@ -1,9 +1,9 @@
 // The queue of posts: its rule, and the steps that a pass makes under it.
 ghost use Rattle.std.specs.Prelude.{◌≡◌, ◌+◌, ◌*◌, [], ◌∷◌, ◌++◌, IfOk};
 ghost use Rattle.crossbeam_queue.specs.SegTies.{IsSegPassOf};
-ghost use Rattle.post_box.specs.History.{IsBoxPost};
+ghost use Rattle.post_box.specs.History.{IsBoxPost, IsWaiting};
 ghost use Rattle.post_box.specs.Views.{poster_view, spent_view, taker_view, with_final};
-ghost use Rattle.post_box.specs.Rule.{IsKept, IsWaiting};
+ghost use Rattle.post_box.specs.Rule.{IsKept};
 
 use crate::view::Known;
 use crossbeam_queue::protocol::{Join, Lesson, Outcome, Protocol, Split};
@@ -34,7 +34,8 @@ impl Outcome<Post, Known> for Push {
     ghost then = { λ v post w. w ≡ record v { posts = v.posts ++ post ∷ [] } };
 }
 
-/// The taker's pop: its view is longer by the post, which is one of the box's. Of an empty queue it learns that all was taken.
+/// The taker's pop: its view is longer by the post, which is one of the box's. Of an empty queue it
+/// learns that all was taken.
 pub struct Pop;
 
 impl Outcome<Post, Known> for Pop {
@@ -45,7 +46,8 @@ impl Lesson<Post, Known> for Pop {
     ghost fact = { λ v items. IsWaiting v.controllers v.agents v.posts v.final_posts items };
 }
 
-/// The taker's pass makes the next controller's poster, and counts it; and it takes a poster back, whose posts it keeps.
+/// The taker's pass makes the next controller's poster, and counts it; and it takes a poster back, whose
+/// posts it keeps.
 pub struct PosterMaking;
 
 impl Split<Known> for PosterMaking {
@@ -78,8 +80,9 @@ impl Split<Known> for AgentAdding {
     ghost right = { λ _. spent_view };
 }
 
-// Lets the taker's pass know how many agents there are. A rule has no number that is known at run time alone, so the number is built up
-// from 0 while there is no poster: half of it, twice, and one more where it is odd.
+// Lets the taker's pass know how many agents there are. The rule is a type's, and so can't name a number
+// that is known at run time alone. The first pass begins with 0, and the number is built up by steps of
+// the rule while there is no poster: half of it, twice, and one more where it is odd.
 fn learn_agents(queue: &Queue, pass: &mut Pass, agents: u32)
     requires queue { IsSegPassOf queue.now pass.old }
     requires none { pass.old.me.view.client ≡ taker_view 0 0 }
@@ -96,8 +99,8 @@ fn learn_agents(queue: &Queue, pass: &mut Pass, agents: u32)
     }
 }
 
-/// An empty queue, and the taker's pass, which knows how many agents there are and has made no poster. `NoMemory` is answered where
-/// memory runs out (documented, not proved).
+/// An empty queue, and the taker's pass, which knows how many agents there are and has made no poster.
+/// `NoMemory` is answered where memory runs out (documented, not proved).
 pub fn queue_for(alloc: Global, agents: u32) -> Result<(Queue, Pass), NoMemory>
     ensures queue { IfOk result (λ made. IsSegPassOf made.0 made.1) }
     ensures agents { IfOk result (λ made. made.1.me.view.client ≡ taker_view 0 agents) }

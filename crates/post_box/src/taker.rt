@@ -1,10 +1,8 @@
 // The taker.
 ghost use Rattle.std.specs.Prelude.{◌≡◌, ◌+◌, ◌≤◌, ◌↔◌, [], ◌∷◌, ◌++◌, IfSome, IfNone, IfOk, length};
-ghost use Rattle.crossbeam_queue.specs.Fifo.{Held};
 ghost use Rattle.post_box.specs.History.{IsBoxPost};
 ghost use Rattle.post_box.specs.Passes.{IsTakerPass, taker_of};
-ghost use Rattle.post_box.specs.Rule.{IsWaiting};
-ghost use Rattle.post_box.specs.Ends.{IsPosterOf, IsTakerOf, Moves, after_taking, after_taking_back};
+ghost use Rattle.post_box.specs.Ends.{IsBehind, IsPosterOf, IsTakerOf, Transfers, WasEmpty, after_taking, after_taking_back};
 
 use crate::limits::MOST_TAKEN;
 use crate::post_box::PostBox;
@@ -25,7 +23,8 @@ pub enum Taken {
     Enough,
 }
 
-/// Takes posts out of the queue.
+/// Takes posts out of the queue. A clause sees what it took so far, by the view of its pass on the queue,
+/// which a pop alone makes longer.
 #[derive(Drop)]
 pub struct Taker {
     pass: Pass,
@@ -55,23 +54,23 @@ impl Taker {
     fn pop<R: Wait>(&mut self, rt: &R, posts: &PostBox) -> Option<Post>
         requires { IsTakerOf posts.now self.old }
         ensures post { IfSome result (λ post. IsBoxPost self.old.controllers self.old.agents post × (self.new ≡ after_taking self.old (post ∷ []))) }
-        ensures emptied { IfNone result ((self.new ≡ self.old) × Held 0 (IsWaiting self.old.controllers self.old.agents self.old.posts self.old.final_posts)) }
+        ensures emptied { IfNone result ((self.new ≡ self.old) × WasEmpty self.old) }
     {
         posts.queue.pop_as::<Pop, R>(rt, &mut self.pass)
     }
 
-    /// Appends the posts that wait, oldest first, and at most `MOST_TAKEN` of them; the list must have room for so many. The box must be
-    /// the taker's own. It takes no memory.
+    /// Appends the posts that wait, oldest first, and at most `MOST_TAKEN` of them; the list must have room
+    /// for so many, and the box must be the taker's own. It takes no memory.
     pub fn take<R: Wait>(&mut self, rt: &R, posts: &PostBox, into: &mut List<Post>) -> Taken
         requires taker { IsTakerOf posts.now self.old }
         requires room { MOST_TAKEN ≤ into.old.spare }
-        ensures moved { Moves self.old self.new into.old.items into.new.items }
+        ensures moved { Transfers self.old self.new into.old.items into.new.items }
         ensures spare { into.new.spare + length into.new.items ≡ into.old.spare + length into.old.items }
         ensures enough { (result ≡ Taken.Enough) ↔ (length into.new.items ≡ length into.old.items + MOST_TAKEN) }
         ensures at_most { length into.new.items ≤ length into.old.items + MOST_TAKEN }
 
-        // At one moment of the call the queue was empty: nothing waited behind what the taker then had taken.
-        ensures emptied { result ≡ Taken.Emptied → Held 0 (IsWaiting self.new.controllers self.new.agents self.new.posts self.new.final_posts) }
+        // At one moment of the call no post waited behind those that the taker has taken.
+        ensures emptied { result ≡ Taken.Emptied → WasEmpty self.new }
     {
         for _ in 0..MOST_TAKEN {
             match self.pop(rt, posts) {
@@ -101,7 +100,7 @@ impl Taker {
         posts: &PostBox,
     ) -> Result<List<Post>, NoMemory>
         requires { IsTakerOf posts.now self.old }
-        ensures { IfOk result (λ rest. IsWaiting self.old.controllers self.old.agents self.old.posts self.old.final_posts rest.items) }
+        ensures { IfOk result (λ rest. IsBehind self.old rest.items) }
     {
         let mut rest = List::with_room(alloc, 0)?;
         for _ in rt.forever() {

@@ -173,7 +173,8 @@ fn next_of(posters: &mut Vec<Poster>, posts: &PostBox) -> Option<Poster>
     posters.pop()
 }
 
-// The posts of three posters, each on a thread of its own, as a taker beside them took them, and those that it left.
+// The posts of three posters, each on a thread of its own, as a taker beside them took them, and those
+// that it left.
 fn three_beside_a_taker<R: Threads + Wait + Sync>(
     rt: &R,
     alloc: Global,

@@ -2,24 +2,22 @@
 use Rattle.std.proofs.Common.{◌≡◌, ℕ, zero, suc, List, [], ◌∷◌, ◌++◌, map, length, sym, refl, ap, ◌∙◌, subst, append_assoc, append-nil, arith}
 use Rattle.std.specs.Prelude.{All}
 use Rattle.std.proofs.lemmas.List.Elements.{All-nil, All-cons, All-head, All-tail, All-push, All-weaker}
-use Rattle.crossbeam_queue.specs.Fifo.{Held}
 use Rattle.crowd_data.specs.declared.post.Post.{Post}
 use Rattle.post_box.specs.declared.view.ControllerPosts.{ControllerPosts}
-use Rattle.post_box.specs.History.{IsBoxPost, IsHistory, posts_by}
-use Rattle.post_box.specs.Rule.{IsWaiting}
-use Rattle.post_box.specs.Ends.{AreOnceInOrder, Moves, PosterState, TakerState, after_taking, final_of}
+use Rattle.post_box.specs.History.{IsBoxPost, IsHistory, IsWaiting, posts_by}
+use Rattle.post_box.specs.Ends.{AreOnceInOrder, IsBehind, PosterState, TakerState, Transfers, WasEmpty, after_taking, final_of}
 
-pub Moves-none : (taker : TakerState) (list : List Post) → Moves taker taker list list
-Moves-none taker list = record {
+pub Transfers-none : (taker : TakerState) (list : List Post) → Transfers taker taker list list
+Transfers-none taker list = record {
   posts = [];
   list = sym (append-nil list);
   taker = λ i. record taker { posts = sym (append-nil taker.posts) i };
   each = All-nil (IsBoxPost taker.controllers taker.agents);
 }
 
-pub Moves-push : (old middle new : TakerState) (before list after : List Post) (post : Post) → Moves old middle before list → IsBoxPost middle.controllers middle.agents post
-    → new ≡ after_taking middle (post ∷ []) → after ≡ list ++ post ∷ [] → Moves old new before after
-Moves-push old middle new before list after post moves valid taker pushed =
+pub Transfers-push : (old middle new : TakerState) (before list after : List Post) (post : Post) → Transfers old middle before list → IsBoxPost middle.controllers middle.agents post
+    → new ≡ after_taking middle (post ∷ []) → after ≡ list ++ post ∷ [] → Transfers old new before after
+Transfers-push old middle new before list after post moves valid taker pushed =
     let same : middle.posts ≡ old.posts ++ moves.posts = ap (λ (t : TakerState). t.posts) moves.taker in
     record {
       posts = moves.posts ++ post ∷ [];
@@ -30,12 +28,11 @@ Moves-push old middle new before list after post moves valid taker pushed =
     }
 
 -- what waits behind all that was moved into an empty list, where nothing waits, is that list before the move
-pub waited : (old new : TakerState) (rest : List Post) → Moves old new [] rest → Held 0 (IsWaiting new.controllers new.agents new.posts new.final_posts)
-    → IsWaiting old.controllers old.agents old.posts old.final_posts rest
+pub waited : (old new : TakerState) (rest : List Post) → Transfers old new [] rest → WasEmpty new → IsBehind old rest
 waited old new rest moves held =
-    by held.0 held.1 (subst (λ (t : TakerState). IsWaiting t.controllers t.agents t.posts t.final_posts held.0) moves.taker held.2)
+    by held.0 held.1 (subst (λ (t : TakerState). IsBehind t held.0) moves.taker held.2)
   where
-    by : (items : List Post) → length items ≡ 0 → IsWaiting old.controllers old.agents (old.posts ++ moves.posts) old.final_posts items → IsWaiting old.controllers old.agents old.posts old.final_posts rest
+    by : (items : List Post) → length items ≡ 0 → IsBehind (after_taking old moves.posts) items → IsBehind old rest
     by [] none waiting =
         let e : (old.posts ++ moves.posts) ++ [] ≡ old.posts ++ rest = append-nil (old.posts ++ moves.posts) ∙ ap (λ l. old.posts ++ l) (sym moves.list) in
         record {
@@ -56,6 +53,6 @@ once_in_order [] (poster ∷ posters) posts all =
 
 -- of all posters that were taken back since, where this is left
 pub finished : (old new : TakerState) (posters : List PosterState) (left : List Post) → new ≡ record old { final_posts = old.final_posts ++ map final_of posters }
-    → IsWaiting new.controllers new.agents new.posts new.final_posts left → AreOnceInOrder posters (old.posts ++ left)
+    → IsBehind new left → AreOnceInOrder posters (old.posts ++ left)
 finished old new posters left taken waiting =
     once_in_order old.final_posts posters (old.posts ++ left) (subst (λ (t : TakerState). All (λ (by : ControllerPosts). posts_by by.controller (t.posts ++ left) ≡ by.posts) t.final_posts) taken waiting.final_posts)
