@@ -1,14 +1,13 @@
 -- Histories of posts, one post longer.
-use Rattle.std.proofs.Common.{◌≡◌, ◌≢◌, ℕ, zero, suc, ◌+◌, ◌<◌, ◌≤◌, eqb, true, false, List, [], ◌∷◌, ◌++◌, map, length, slice_index_or, sym, refl, ap, ◌∙◌, subst, append_assoc, append-nil, arith, length-append, ne_eqb, eq-eqb}
-use Rattle.std.specs.Prelude.{All, filter}
+use Rattle.std.proofs.Common.{◌≡◌, ◌≢◌, ℕ, ◌+◌, ◌<◌, ◌≤◌, eqb, true, false, List, [], ◌∷◌, ◌++◌, length, slice_index_or, sym, refl, ap, ◌∙◌, subst, append-nil, arith, length-append, ne_eqb, eq-eqb}
+use Rattle.std.specs.Prelude.{All}
 use Rattle.std.specs.List.{range_with_len}
 use Rattle.std.proofs.lemmas.List.{map-append, map-id}
-use Rattle.std.proofs.lemmas.List.Elements.{All-nil, All-cons, All-head, All-tail, All-push, All-weaker, filter-append}
+use Rattle.std.proofs.lemmas.List.Elements.{All-head, All-tail, All-push, All-weaker, filter-append}
 use Rattle.std.proofs.lemmas.List.FromFn.{map-range_with_len_more}
 use mathlib.Core.Logic.{dite}
 use native.Mathlib.Decide.{ℕ_discrete}
 use Rattle.crowd_data.specs.declared.post.Post.{Post}
-use Rattle.crowd_data.specs.Limits.{IsPost}
 use Rattle.post_box.specs.History.{AreConsecutive, IsBoxPost, IsHistory, posts_by}
 
 -- what stands where a list goes on
@@ -16,9 +15,7 @@ pub at_seam : {A : Type 0} (xs : List A) (y : A) (ys : List A) (d : A) → slice
 at_seam [] y ys d = refl
 at_seam (x ∷ xs) y ys d = at_seam xs y ys d
 
-by : Post → ℕ → List Post → List Post
-by post controller rest = posts_by controller (post ∷ rest)
-
+-- of one post
 pub posts_by-own : (controller : ℕ) (post : Post) → post.controller ≡ controller → posts_by controller (post ∷ []) ≡ post ∷ []
 posts_by-own controller post own = let same : eqb post.controller controller ≡ true = eq-eqb post.controller controller own in rw same refl
 

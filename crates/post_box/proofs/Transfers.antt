@@ -1,19 +1,11 @@
 -- What the taker moved, one post or one poster more.
-use Rattle.std.proofs.Common.{◌≡◌, ℕ, zero, suc, List, [], ◌∷◌, ◌++◌, map, length, sym, refl, ap, ◌∙◌, subst, append_assoc, append-nil, arith}
+use Rattle.std.proofs.Common.{◌≡◌, List, [], ◌∷◌, ◌++◌, map, ap, ◌∙◌, subst, append_assoc}
 use Rattle.std.specs.Prelude.{All}
-use Rattle.std.proofs.lemmas.List.Elements.{All-nil, All-cons, All-head, All-tail, All-push, All-weaker}
+use Rattle.std.proofs.lemmas.List.Elements.{All-nil, All-cons, All-head, All-tail, All-push}
 use Rattle.crowd_data.specs.declared.post.Post.{Post}
 use Rattle.post_box.specs.declared.view.ControllerPosts.{ControllerPosts}
-use Rattle.post_box.specs.History.{IsBoxPost, IsHistory, IsWaiting, posts_by}
-use Rattle.post_box.specs.Ends.{AreOnceInOrder, IsBehind, PosterState, TakerState, Transfers, WasEmpty, after_taking, final_of}
-
-pub Transfers-none : (taker : TakerState) (list : List Post) → Transfers taker taker list list
-Transfers-none taker list = record {
-  posts = [];
-  list = sym (append-nil list);
-  taker = λ i. record taker { posts = sym (append-nil taker.posts) i };
-  each = All-nil (IsBoxPost taker.controllers taker.agents);
-}
+use Rattle.post_box.specs.History.{IsBoxPost, posts_by}
+use Rattle.post_box.specs.Ends.{AreOnceInOrder, IsBehind, PosterState, TakerState, Transfers, after_taking, final_of}
 
 pub Transfers-push : (old middle new : TakerState) (before list after : List Post) (post : Post) → Transfers old middle before list → IsBoxPost middle.controllers middle.agents post
     → new ≡ after_taking middle (post ∷ []) → after ≡ list ++ post ∷ [] → Transfers old new before after
@@ -26,20 +18,6 @@ Transfers-push old middle new before list after post moves valid taker pushed =
       each = All-push (IsBoxPost old.controllers old.agents) moves.posts post moves.each
           (subst (λ (t : TakerState). IsBoxPost t.controllers t.agents post) moves.taker valid);
     }
-
--- what waits behind all that was moved into an empty list, where nothing waits, is that list before the move
-pub waited : (old new : TakerState) (rest : List Post) → Transfers old new [] rest → WasEmpty new → IsBehind old rest
-waited old new rest moves held =
-    by held.0 held.1 (subst (λ (t : TakerState). IsBehind t held.0) moves.taker held.2)
-  where
-    by : (items : List Post) → length items ≡ 0 → IsBehind (after_taking old moves.posts) items → IsBehind old rest
-    by [] none waiting =
-        let e : (old.posts ++ moves.posts) ++ [] ≡ old.posts ++ rest = append-nil (old.posts ++ moves.posts) ∙ ap (λ l. old.posts ++ l) (sym moves.list) in
-        record {
-          history = subst (IsHistory old.controllers old.agents) e waiting.history;
-          final_posts = subst (λ (l : List Post). All (λ (by : ControllerPosts). posts_by by.controller l ≡ by.posts) old.final_posts) e waiting.final_posts;
-        }
-    by (x ∷ items) none waiting = absurd (omega arith)
 
 -- of the posters that were taken back
 pub once_in_order : (earlier : List ControllerPosts) (posters : List PosterState) (posts : List Post)

@@ -1,4 +1,4 @@
-use Rattle.std.proofs.Common.{ap, arith, ◌≤◌, ◌∙◌}
+use Rattle.std.proofs.Common.{ap, arith, ◌∙◌}
 use Rattle.post_box.specs.declared.view.Known.{Known}
 use Rattle.post_box.proofs.Keeps.{learns_agents}
 use Rattle.post_box.proofs.queue.+learn_agents.Goals as goal

@@ -1,5 +1,4 @@
-use Rattle.std.proofs.Common.{◌<◌, arith, ap, sym, subst, ℕ}
-use Rattle.crowd_data.specs.Limits.{IsPost}
+use Rattle.std.proofs.Common.{arith, sym}
 use Rattle.crowd_data.specs.declared.post.Post.{Post}
 use Rattle.post_box.proofs.Keeps.{sends}
 use Rattle.post_box.proofs.poster.Poster.post.Goals as goal
