@@ -1,0 +1,5 @@
+mod Prefixes
+mod Adding
+mod Accounts
+mod Histories
+mod Keeping
