@@ -47,7 +47,7 @@ pub struct FrameWriter {
     ghost settled: { is_settled published.seen.log ≡ true },
     ghost none_pending: { drop copies.behind copies.log.items ≡ [] },
     ghost knows_all: { view copies.desk.place ≡ view_of (name_of log.seen.book) (scenario_in log.seen.log) (attempted_in copies.desk.shown.value.prefix.seen.log) },
-    ghost counted: { (controller : ℕ) → controller < 16 → slice_index counts.counts controller ≡ count_of controller (published_in published.seen.log) },
+    ghost counted: { (controller : ℕ) → controller < CONTROLLERS → slice_index counts.counts controller ≡ count_of controller (published_in published.seen.log) },
 }
 
 impl FrameWriter {
