@@ -1,8 +1,9 @@
 // The commands.
-ghost use Rattle.std.specs.Prelude.{◌≡◌, ◌⊎◌, Err, IfOk, IsErrOf, Ok, map};
+ghost use Rattle.std.specs.Prelude.{◌≡◌, ◌≤◌, ◌⊎◌, Err, IfOk, IfSome, IsErrOf, Ok, map};
 ghost use Rattle.clap.specs.Words.{first_value, found_of};
 ghost use Rattle.command_words.specs.Commands.{Answers, agents_in, command_of, command_with, name_of, sample_number_in, optional, options_for, required, steps_in, workers_in};
 ghost use Rattle.command_words.specs.Options.{options_of};
+ghost use Rattle.command_words.specs.Sizes.{IsSized};
 ghost use Rattle.command_words.specs.Spelling.{Asks};
 ghost use Rattle.command_words.specs.declared.commands.Command.{Command};
 ghost use Rattle.command_words.specs.Reading.{ReadsOptions, known_of};
@@ -106,31 +107,36 @@ fn read_named<'a>(
 }
 
 fn workers(matches: &ArgMatches<'_>) -> Option<u32>
-    ensures { result ≡ workers_in (first_value (found_of matches.now)) }
+    ensures value { result ≡ workers_in (first_value (found_of matches.now)) }
+    ensures limits { IfSome result (λ n. (1 ≤ n) × (n ≤ 64)) }
 {
     option_number(matches, "workers", Some(1), 1, 64)
 }
 
 fn sample_number(matches: &ArgMatches<'_>) -> Option<u32>
-    ensures { result ≡ sample_number_in (first_value (found_of matches.now)) }
+    ensures value { result ≡ sample_number_in (first_value (found_of matches.now)) }
+    ensures limits { IfSome result (λ n. (0 ≤ n) × (n ≤ 65535)) }
 {
     option_number(matches, "number", None, 0, 65_535)
 }
 
 fn agents(matches: &ArgMatches<'_>) -> Option<u32>
-    ensures { result ≡ agents_in (first_value (found_of matches.now)) }
+    ensures value { result ≡ agents_in (first_value (found_of matches.now)) }
+    ensures limits { IfSome result (λ n. (1 ≤ n) × (n ≤ 10000)) }
 {
     option_number(matches, "agents", None, 1, 10_000)
 }
 
 fn steps(matches: &ArgMatches<'_>) -> Option<u32>
-    ensures { result ≡ steps_in (first_value (found_of matches.now)) }
+    ensures value { result ≡ steps_in (first_value (found_of matches.now)) }
+    ensures limits { IfSome result (λ n. (0 ≤ n) × (n ≤ 100000)) }
 {
     option_number(matches, "steps", None, 0, 100_000)
 }
 
 fn sample(matches: &ArgMatches<'_>) -> Option<Command>
-    ensures { result ≡ command_with Name.Sample (first_value (found_of matches.now)) }
+    ensures value { result ≡ command_with Name.Sample (first_value (found_of matches.now)) }
+    ensures sizes { IfSome result IsSized }
 {
     match (sample_number(matches), agents(matches), steps(matches)) {
         (Some(number), Some(agents), Some(steps)) => Some(Command::Sample {
@@ -143,7 +149,8 @@ fn sample(matches: &ArgMatches<'_>) -> Option<Command>
 }
 
 fn soak(matches: &ArgMatches<'_>) -> Option<Command>
-    ensures { result ≡ command_with Name.Soak (first_value (found_of matches.now)) }
+    ensures value { result ≡ command_with Name.Soak (first_value (found_of matches.now)) }
+    ensures sizes { IfSome result IsSized }
 {
     match (
         sample_number(matches),
@@ -163,7 +170,8 @@ fn soak(matches: &ArgMatches<'_>) -> Option<Command>
 
 // The command of this name with the options that were found.
 fn command_with(name: Name, matches: &ArgMatches<'_>) -> Option<Command>
-    ensures { result ≡ command_with name (first_value (found_of matches.now)) }
+    ensures value { result ≡ command_with name (first_value (found_of matches.now)) }
+    ensures sizes { IfSome result IsSized }
 {
     match name {
         Name::Run => workers(matches).map(|workers| Command::Run { workers }),
@@ -176,7 +184,8 @@ fn command_with(name: Name, matches: &ArgMatches<'_>) -> Option<Command>
 // The command, by the recursion over the words.
 #[tactic(auto, unfolding(crate::specs::Commands::command_of))]
 fn find_command(alloc: Global, words: &[&str]) -> Result<Command, WordsFault>
-    ensures { Answers (command_of (map (λ w. w.now) words.now)) result }
+    ensures read { Answers (command_of (map (λ w. w.now) words.now)) result }
+    ensures sizes { IfOk result IsSized }
 {
     let [word, rest @ ..] = words else {
         return Err(WordsFault::Usage);
@@ -203,6 +212,9 @@ pub fn read_command(alloc: Global, words: &[&str]) -> Result<Command, WordsFault
 
     // The same by a recursion over the words, which computes.
     ensures read { Answers (command_of (map (λ w. w.now) words.now)) result }
+
+    // Its numbers are within their limits.
+    ensures sizes { IfOk result IsSized }
 {
     find_command(alloc, words)
 }

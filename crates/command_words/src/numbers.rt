@@ -1,5 +1,5 @@
 // Numbers among the words.
-ghost use Rattle.std.specs.Prelude.{◌≡◌, ◌≤◌, length};
+ghost use Rattle.std.specs.Prelude.{◌≡◌, ◌≤◌, IfSome, length};
 ghost use Rattle.command_words.specs.Numbers.{digits_after, number_in};
 
 // The number that the digits spell.
@@ -19,7 +19,8 @@ fn digits(text: &[u8]) -> Option<u64>
 
 /// The number that 1 to 10 digits spell, if it is within the limits.
 pub(crate) fn number_in(text: &str, low: u32, high: u32) -> Option<u32>
-    ensures { result ≡ number_in low high text.now }
+    ensures value { result ≡ number_in low high text.now }
+    ensures limits { IfSome result (λ n. (low ≤ n) × (n ≤ high)) }
 {
     if text.is_empty() || text.len() > 10 {
         return None;

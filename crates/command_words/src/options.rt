@@ -1,7 +1,8 @@
 // Options of a command, read with clap.
-ghost use Rattle.std.specs.Prelude.{◌≡◌, IfOk, MatchBool, true, false, map, codes, IsUtf8};
+ghost use Rattle.std.specs.Prelude.{◌≡◌, ◌≤◌, IfOk, IfSome, MatchBool, true, false, map, codes, IsUtf8};
 ghost use Rattle.std.specs.Str.{bytes_eq};
 ghost use Rattle.std.specs.List.{list_any};
+ghost use Rattle.std.specs.Option.{ForSome};
 ghost use Rattle.clap.specs.Words.{app_of, first_value, found_of, rule_of};
 ghost use Rattle.command_words.specs.Numbers.{number_or};
 ghost use Rattle.command_words.specs.Options.{options_of};
@@ -101,7 +102,9 @@ pub(crate) fn option_number(
     low: u32,
     high: u32,
 ) -> Option<u32>
-    ensures { result ≡ number_or default low high (first_value (found_of matches.now) name.now) }
+    requires { ForSome default (λ n. (low ≤ n) × (n ≤ high)) }
+    ensures value { result ≡ number_or default low high (first_value (found_of matches.now) name.now) }
+    ensures limits { IfSome result (λ n. (low ≤ n) × (n ≤ high)) }
 {
     match matches.get_str(name) {
         None => default,

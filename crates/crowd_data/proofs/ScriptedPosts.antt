@@ -1,10 +1,12 @@
 -- The scripted posts of a frame stand behind those of earlier frames and before those of later ones.
 use Rattle.std.proofs.Common.{◌≡◌, ◌≢◌, ◌∙◌, ◌<◌, ◌≤◌, ◌+◌, ℕ, zero, suc, Bool, true, false, cond, eqb, eq-eqb, List, [], ◌∷◌, length, length-drop, drop, slice_index_or, refl, ap, subst, arith}
-use Rattle.std.specs.List.{AllPairs}
+use Rattle.std.specs.List.{All, AllPairs}
+use Rattle.std.proofs.lemmas.List.Elements.{All-cons, All-head, All-nil, All-tail}
 use Rattle.std.proofs.lemmas.Bool.{ne_eqb}
 use Rattle.std.proofs.lemmas.List.{get_or-drop, get_or_default}
 use Rattle.crowd_data.specs.declared.post.Post.{Post}
 use Rattle.crowd_data.specs.declared.post.ScriptPost.{ScriptPost}
+use Rattle.crowd_data.specs.Limits.{IsPost, IsScriptPost}
 use Rattle.crowd_data.specs.Run.{scripted_from}
 use Rattle.crowd_data.specs.Scripts.{IsCursor, no_post, post_at}
 
@@ -59,3 +61,14 @@ none_left posts number place d h order behind other =
     later : (k : ℕ) → place + k < length posts → (post_at posts place).frame ≤ (post_at posts (place + k)).frame
     later zero l = let e : place ≡ place + zero = omega arith in subst (λ n. (post_at posts place).frame ≤ (post_at posts n).frame) e (omega arith)
     later (suc k) l = order place (place + suc k) no_post (omega arith) l
+
+-- each of them is for an agent that exists, with a velocity within its limits
+pub scripted_sound : (steps agents : ℕ) (posts : List ScriptPost) (place number : ℕ) → All (IsScriptPost steps agents) posts → All (IsPost agents) (scripted_from place posts number)
+scripted_sound steps agents [] place number all = All-nil (IsPost agents)
+scripted_sound steps agents (post ∷ rest) place number all =
+    by (eqb post.frame number) (All-head (IsScriptPost steps agents) post rest all)
+    (scripted_sound steps agents rest (place + 1) number (All-tail (IsScriptPost steps agents) post rest all))
+  where
+    by : (own : Bool) → IsScriptPost steps agents post → All (IsPost agents) (scripted_from (place + 1) rest number) → All (IsPost agents) (cond own (scripted place post ∷ scripted_from (place + 1) rest number) (scripted_from (place + 1) rest number))
+    by true sound later = All-cons (IsPost agents) (scripted place post) (scripted_from (place + 1) rest number) (record { agent = sound.agent; vel = sound.vel }) later
+    by false sound later = later

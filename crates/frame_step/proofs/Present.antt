@@ -1,5 +1,5 @@
 -- Each next frame of a run is present, and its agents stand where they can be placed.
-use Rattle.std.proofs.Common.{◌≡◌, ◌∙◌, ◌<◌, ◌≤◌, ◌+◌, ◌*◌, ◌^◌, ℕ, List, [], ◌∷◌, length, map, sym, subst, arith, ℤ, ◌+ℤ◌, unsigned_abs}
+use Rattle.std.proofs.Common.{◌≡◌, ◌∙◌, ◌<◌, ◌≤◌, ◌+◌, ◌*◌, ◌^◌, ℕ, List, [], ◌∷◌, length, map, sym, ap, subst, arith, ℤ, ◌+ℤ◌, unsigned_abs}
 use Rattle.std.specs.List.{All}
 use Rattle.std.proofs.lemmas.Int.{ints}
 use Rattle.std.proofs.lemmas.List.Elements.{All-cons, All-from_get_or, All-head, All-map, All-nil, All-tail}
@@ -9,11 +9,13 @@ use Rattle.crowd_data.specs.declared.agent.Agent.{Agent}
 use Rattle.crowd_data.specs.declared.frame.Body.{Body}
 use Rattle.crowd_data.specs.declared.pair.Place.{Place}
 use Rattle.crowd_data.specs.Advice.{place_of}
-use Rattle.crowd_data.specs.Limits.{IsVelocity, IsWithin}
+use Rattle.crowd_data.specs.Limits.{IsAgent, IsVelocity, IsWithin}
 use Rattle.crowd_data.specs.Present.{IsBody, IsPresent}
 use Rattle.crowd_data.specs.Run.{IsNext, Snapshot, body_at, crowd_of, no_body, standing}
 use Rattle.crowd_data.specs.SafeSteps.{vel_in}
 use Rattle.crowd_data.specs.Scenario.{IsValid, Parts}
+use Rattle.crowd_data.proofs.Crowds.{length-places}
+use Rattle.agent_kdtree.specs.Placed.{IsPlaced}
 use Rattle.run_law.proofs.Runs.{step_safe}
 use Rattle.run_law.proofs.Sound.{present_sound}
 
@@ -51,15 +53,26 @@ module _ (scenario : Parts) (frame next : Snapshot) (valid : IsValid scenario) (
 below : (at : V2) (number : ℕ) → number ≤ 100000 → IsWithin at (4194304 + 16384 * number) → IsBelow at (2 ^ 31)
 below at number few near = (omega (arith, near.0), omega (arith, near.1))
 
-stand_below : (agents : List Agent) (bodies : List Body) (number : ℕ) → number ≤ 100000 → All (IsBody number) bodies
-    → All (λ (agent : Agent). IsBelow agent.pos (2 ^ 31)) (crowd_of agents bodies)
-stand_below [] bodies number few all = All-nil (λ (agent : Agent). IsBelow agent.pos (2 ^ 31))
-stand_below (agent ∷ agents) [] number few all = All-nil (λ (agent : Agent). IsBelow agent.pos (2 ^ 31))
-stand_below (agent ∷ agents) (body ∷ bodies) number few all =
-    All-cons (λ (agent : Agent). IsBelow agent.pos (2 ^ 31)) (standing agent body) (crowd_of agents bodies) (below body.pos number few (All-head (IsBody number) body bodies all).pos)
-    (stand_below agents bodies number few (All-tail (IsBody number) body bodies all))
+-- where an agent stands in a frame, it can be placed
+placed_agent : (agent : Agent) (body : Body) (number : ℕ) → number ≤ 100000 → IsAgent agent → IsBody number body → IsPlaced (place_of (standing agent body))
+placed_agent agent body number few sound limits = record { pos = below body.pos number few limits.pos; radius = sound.build.radius; speed = sound.build.speed }
 
-pub places_below : (agents : List Agent) (bodies : List Body) (number : ℕ) → number ≤ 100000 → All (IsBody number) bodies
-    → All (λ (place : Place). IsBelow place.pos (2 ^ 31)) (map place_of (crowd_of agents bodies))
-places_below agents bodies number few all =
-    All-map (λ (place : Place). IsBelow place.pos (2 ^ 31)) place_of (crowd_of agents bodies) (stand_below agents bodies number few all)
+placed_all : (agents : List Agent) (bodies : List Body) (number : ℕ) → number ≤ 100000 → All IsAgent agents → All (IsBody number) bodies
+    → All (λ (agent : Agent). IsPlaced (place_of agent)) (crowd_of agents bodies)
+placed_all [] bodies number few sound all = All-nil (λ (agent : Agent). IsPlaced (place_of agent))
+placed_all (agent ∷ agents) [] number few sound all = All-nil (λ (agent : Agent). IsPlaced (place_of agent))
+placed_all (agent ∷ agents) (body ∷ bodies) number few sound all =
+    All-cons (λ (agent : Agent). IsPlaced (place_of agent)) (standing agent body) (crowd_of agents bodies)
+    (placed_agent agent body number few (All-head IsAgent agent agents sound) (All-head (IsBody number) body bodies all))
+    (placed_all agents bodies number few (All-tail IsAgent agent agents sound) (All-tail (IsBody number) body bodies all))
+
+pub all_placed : (scenario : Parts) (frame : Snapshot) (places : List Place) → IsValid scenario → IsPresent scenario frame → places ≡ map place_of (crowd_of scenario.agents frame.bodies)
+    → All IsPlaced places
+all_placed scenario frame places valid present are =
+    subst (λ (list : List Place). All IsPlaced list) (sym are)
+    (All-map IsPlaced place_of (crowd_of scenario.agents frame.bodies)
+    (placed_all scenario.agents frame.bodies frame.number (omega (arith, present.number, valid.steps)) valid.agents present.bodies))
+
+pub length-placed : (scenario : Parts) (frame : Snapshot) (places : List Place) → length frame.bodies ≡ length scenario.agents → places ≡ map place_of (crowd_of scenario.agents frame.bodies)
+    → length places ≡ length scenario.agents
+length-placed scenario frame places full are = ap length are ∙ length-places scenario.agents frame.bodies full

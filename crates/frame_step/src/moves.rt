@@ -1,17 +1,12 @@
 // How bodies move in a step.
-ghost use Rattle.std.specs.Prelude.{◌≡◌, ◌<◌, ◌≤◌, ◌+◌, ◌-◌, map, length};
-ghost use Rattle.crowd_data.specs.declared.agent.Agent.{Agent};
-ghost use Rattle.crowd_data.specs.Advice.{place_of};
+ghost use Rattle.std.specs.Prelude.{◌≡◌, ◌<◌, ◌≤◌, ◌+◌, ◌-◌, length};
 ghost use Rattle.crowd_data.specs.Limits.{IsVelocity};
 ghost use Rattle.crowd_data.specs.Present.{IsBody, IsPresent};
-ghost use Rattle.crowd_data.specs.RingPlanes.{ring_planes};
-ghost use Rattle.crowd_data.specs.Run.{crowd_of, moved_body, snapshot_of};
+ghost use Rattle.crowd_data.specs.Run.{moved_body, snapshot_of};
 ghost use Rattle.frame_step.specs.Moved.{AppendsMoved};
-ghost use Rattle.agent_kdtree.specs.Stands.{StandsFor};
 
-use agent_kdtree::Tree;
-use agent_step::{Advice, Polygons, Scratch, advise};
-use crowd_data::{Body, Frame, Place, Scenario};
+use agent_step::{Advice, FrozenCrowd, Scratch, advise};
+use crowd_data::{Body, Frame};
 use fixed_vec::{List, plus};
 
 // The body after a step.
@@ -31,36 +26,30 @@ fn moved(body: &Body, advice: Advice, number: u32) -> Body
 }
 
 /// Appends the bodies of the agents `from` to `to` (which is left out) after the step from a frame whose
-/// posts are taken in.
+/// posts are taken in, and of which the crowd is the frozen state.
 pub(crate) fn move_range(
     next: &mut List<Body>,
-    scenario: &Scenario,
-    polygons: &Polygons,
+    crowd: &FrozenCrowd,
     frame: &Frame,
-    places: &[Place],
-    tree: &Tree,
     from: usize,
     to: usize,
     scratch: &mut Scratch,
 )
-    requires below { frame.now.number < scenario.now.steps }
-    requires present { IsPresent scenario.now (snapshot_of frame.now) }
-    requires polygons { polygons.now ≡ map (λ (agent : Agent). ring_planes agent.speed) scenario.now.agents }
-    requires places { places.now ≡ map place_of (crowd_of scenario.now.agents frame.now.bodies.items) }
-    requires stands { StandsFor tree.now places.now }
+    requires frame { crowd.now.frame ≡ snapshot_of frame.now }
+    requires below { frame.now.number < crowd.now.scenario.steps }
+    requires few { crowd.now.scenario.steps ≤ 100000 }
+    requires present { IsPresent crowd.now.scenario (snapshot_of frame.now) }
     requires order { from ≤ to }
-    requires agents { to ≤ length scenario.now.agents }
+    requires agents { to ≤ length crowd.now.scenario.agents }
     requires room { to - from ≤ next.old.spare }
-    requires planes { length scenario.now.segments + 100 ≤ scratch.old }
-    ensures moved { AppendsMoved scenario.now (snapshot_of frame.now) from (to - from) next.old.items next.new.items }
+    requires planes { length crowd.now.scenario.segments + 100 ≤ scratch.old }
+    ensures moved { AppendsMoved crowd.now.scenario (snapshot_of frame.now) from (to - from) next.old.items next.new.items }
     ensures room { length next.new.items + next.new.spare ≡ length next.old.items + next.old.spare }
     ensures planes { scratch.new ≡ scratch.old }
 {
     let bodies = frame.bodies.items();
-    // The scenario's type keeps that it is valid.
-    let _valid = scenario.steps();
     for who in from..to {
-        let advice = advise(scenario, polygons, bodies, places, tree, who, scratch);
+        let advice = advise(crowd, who, scratch);
         next.push(moved(&bodies[who], advice, frame.number));
     }
 }

@@ -11,7 +11,7 @@ use crate::moves::move_range;
 use crate::places::place_all;
 use crate::posts::take_all;
 use agent_kdtree::Tree;
-use agent_step::{Polygons, Scratch};
+use agent_step::{FrozenCrowd, Polygons, Scratch};
 use crowd_data::{Body, Frame, Place, Post, Scenario, first_frame};
 use fixed_vec::{List, NoMemory};
 use outside_io::{Gate, OpenGate};
@@ -122,13 +122,17 @@ impl Stepper {
         place_all(&mut self.places, agents, self.frame.bodies.items());
         self.tree.rebuild(self.places.items());
         self.next.clear();
-        move_range(
-            &mut self.next,
+        let crowd = FrozenCrowd::of(
             &self.scenario,
-            &self.polygons,
             &self.frame,
+            &self.polygons,
             self.places.items(),
             &self.tree,
+        );
+        move_range(
+            &mut self.next,
+            &crowd,
+            &self.frame,
             0,
             agents.len(),
             &mut self.scratch,

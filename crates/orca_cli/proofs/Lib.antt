@@ -1,5 +1,4 @@
 mod TextBehind
-mod Forms
-mod Unposted
 mod Written
-mod Outputs
+mod Promises
+mod Working

@@ -1,4 +1,6 @@
-pub mod Words
+pub mod Accepted
 pub mod Output
 pub mod Behind
 pub mod Status
+pub mod Working
+pub mod Promise

@@ -1,14 +1,17 @@
--- What `run` writes for the bytes that it reads, and which bytes it doesn't take.
-use Rattle.std.specs.Prelude.{◌≡◌, ℕ, true, List}
-use Rattle.crowd_data.specs.declared.post.Post.{Post}
-use Rattle.crowd_data.specs.Run.{IsRun, Snapshot, scripts_of}
-use Rattle.crowd_data.specs.SafeSteps.{EachStep, KeepsOffWalls, PairsKeepApart}
+-- What each command reads, and what it writes: one line a command. The number of workers is no part of it.
+use Rattle.std.specs.Prelude.{◌≡◌, ℕ, Bool, true, false, List}
+use Rattle.crowd_data.specs.Run.{scripts_of}
 use Rattle.crowd_data.specs.Scenario.{Parts}
-use Rattle.frame_text.specs.Transcript.{IsTranscript}
+use Rattle.command_words.specs.declared.commands.Command.{Command}
+use Rattle.command_words.specs.declared.commands.Command.TheVariants.{Run, Check, Sample, Soak}
+use Rattle.frame_text.specs.Transcript.{IsTranscript, scenario_text}
+use Rattle.run_law.specs.Laws.{EveryRunIsSafe}
+use Rattle.run_summary.specs.Summary.{IsSummary}
 use Rattle.scenario_read.specs.declared.cause.Cause.{Cause}
-use Rattle.scenario_read.specs.declared.cause.ScenarioFault.TheVariants.{At}
-use Rattle.scenario_read.specs.Reading.{IsAccepted, Tells, has_unbuilt}
+use Rattle.scenario_read.specs.Generator.{generated}
+use Rattle.scenario_read.specs.Reading.{IsAccepted, IsRefusedFor}
 use Rattle.scenario_read.specs.Records.{records_of}
+use Rattle.orca_cli.specs.Accepted.{accepted_line}
 
 -- the records of the bytes are accepted as this scenario: no cause holds
 abbrev pub IsScenarioOf : List ℕ → Parts → Type 0
@@ -16,25 +19,40 @@ IsScenarioOf bytes scenario = IsAccepted (records_of bytes) scenario
 
 -- the first cause why the bytes stand for no scenario, with the number of its record
 abbrev pub IsRefusedBy : List ℕ → ℕ → Cause → Type 0
-IsRefusedBy bytes index cause = Tells (records_of bytes) (At index cause)
+IsRefusedBy bytes index cause = IsRefusedFor (records_of bytes) index cause
 
 -- some cause holds
 abbrev pub IsRefused : List ℕ → Type 0
 IsRefused bytes = (index : ℕ) × (cause : Cause) × IsRefusedBy bytes index cause
 
--- a form that isn't built: records of posts or goals
-abbrev pub IsUnbuilt : List ℕ → Type 0
-IsUnbuilt bytes = has_unbuilt (records_of bytes) ≡ true
+-- ---- the commands
 
--- a text is the defined output for bytes: the transcript of their scenario's run with its scripted posts
-abbrev pub IsOutput : List ℕ → List ℕ → Type 0
-IsOutput bytes text = (scenario : Parts) × IsScenarioOf bytes scenario × IsTranscript scenario (scripts_of scenario) text
+-- whether it reads a scenario
+abbrev pub reads : Command → Bool
+reads (Run workers) = true
+reads Check = true
+reads (Sample number agents steps) = false
+reads (Soak number agents steps workers) = false
 
--- a run in which no disc cuts a segment, no velocity is longer than its agent's speed, and pairs keep apart
-abbrev pub IsSafeRun : Parts → List Snapshot → Type 0
-IsSafeRun scenario frames = KeepsOffWalls scenario frames × EachStep (PairsKeepApart scenario) frames
+-- the scenario that it is about: the one that the bytes read stand for, or a generated one
+abbrev pub IsFor : Command → List ℕ → Parts → Type 0
+IsFor (Run workers) bytes scenario = IsScenarioOf bytes scenario
+IsFor Check bytes scenario = IsScenarioOf bytes scenario
+IsFor (Sample number agents steps) bytes scenario = scenario ≡ generated number agents steps
+IsFor (Soak number agents steps workers) bytes scenario = scenario ≡ generated number agents steps
 
--- every run of the scenario that the bytes stand for is safe, whatever is posted
-abbrev pub EveryRunIsSafe : List ℕ → Type 0
-EveryRunIsSafe bytes =
-    (scenario : Parts) → IsScenarioOf bytes scenario → (lists : List (List Post)) → (frames : List Snapshot) → IsRun scenario lists frames → IsSafeRun scenario frames
+-- what it writes of the scenario: the transcript of its run with its scripted posts, how large it is, its
+-- text, or the summary of that run
+abbrev pub IsTextFor : Command → Parts → List ℕ → Type 0
+IsTextFor (Run workers) scenario text = IsTranscript scenario (scripts_of scenario) text
+IsTextFor Check scenario text = text ≡ accepted_line scenario
+IsTextFor (Sample number agents steps) scenario text = text ≡ scenario_text scenario
+IsTextFor (Soak number agents steps workers) scenario text = IsSummary scenario text
+
+-- the whole output of a command, where these bytes were read
+abbrev pub IsOutput : Command → List ℕ → List ℕ → Type 0
+IsOutput command bytes text = (scenario : Parts) × IsFor command bytes scenario × IsTextFor command scenario text
+
+-- every run of its scenario is safe, whatever is posted
+abbrev pub RunsAreSafe : Command → List ℕ → Type 0
+RunsAreSafe command bytes = (scenario : Parts) → IsFor command bytes scenario → EveryRunIsSafe scenario

@@ -1,14 +1,15 @@
 -- What each status says of the words, of the bytes, and of what was read and written.
-use Rattle.std.specs.Prelude.{◌≡◌, ℕ, ◌+◌, ◌<◌, ◌≤◌, true, false, List, [], ◌++◌, length, IfSome, codes, decimal}
+use Rattle.std.specs.Prelude.{◌≡◌, ℕ, ◌+◌, ◌<◌, ◌≤◌, Bool, true, false, List, [], ◌++◌, length, IfSome, Some, None, codes, decimal}
 use Rattle.std.specs.declared.option.Option.{Option}
 use Rattle.std.specs.Io.KnownBytes.{Appends, IsAtEnd, Keeps}
 use Rattle.outside_io.specs.Causes.{AppendsPrefix, Rose, Takes, TakesAtMost}
-use Rattle.orca_cli.specs.Output.{EveryRunIsSafe, IsOutput, IsRefused, IsRefusedBy, IsUnbuilt}
+use Rattle.command_words.specs.Commands.{command_of}
+use Rattle.command_words.specs.declared.commands.Command.{Command}
 use Rattle.scenario_read.specs.declared.cause.Cause.{Cause}
-use Rattle.scenario_read.specs.declared.cause.Cause.TheVariants.{NoHeader, UnknownKind, FieldCount, NotANumber, OutOfRange, StepsTwice, TooMany, NoSteps, AgentOnSegment}
-use Rattle.orca_cli.specs.Words.{is_run}
+use Rattle.scenario_read.specs.declared.cause.Cause.TheVariants.{NoHeader, UnknownKind, FieldCount, NotANumber, OutOfRange, StepsTwice, TooMany, NoSteps, NoSuchAgent, PostOrder, GoalTwice, AgentOnSegment}
+use Rattle.orca_cli.specs.Output.{IsOutput, IsRefused, IsRefusedBy, RunsAreSafe, reads}
 use Rattle.orca_cli.specs.declared.status.Status.{Status}
-use Rattle.orca_cli.specs.declared.status.Status.TheVariants.{Done, NoMemory, Usage, Refused, ReadFault, WriteFault, TooLong, NotYet}
+use Rattle.orca_cli.specs.declared.status.Status.TheVariants.{Done, NoMemory, Usage, Refused, ReadFault, WriteFault, TooLong}
 
 -- the most bytes of an input
 abbrev pub input_limit : ℕ
@@ -22,7 +23,6 @@ code_of (Refused index cause) = 3
 code_of ReadFault = 4
 code_of WriteFault = 5
 code_of TooLong = 6
-code_of NotYet = 8
 
 -- what a source and a sink tell before a call, or behind it: the bytes left and held, and the faults
 pub record Channels : Type 0 where
@@ -40,33 +40,46 @@ abbrev pub IsUnwritten : Channels → Channels → Type 0
 IsUnwritten old new = Keeps old.held new.held × (new.writes ≡ old.writes)
 
 -- the whole output was written
-abbrev pub WroteOutput : Channels → Channels → List ℕ → Type 0
-WroteOutput old new bytes = (text : List ℕ) × IsOutput bytes text × Appends old.held new.held text
+abbrev pub WroteOutput : Command → Channels → Channels → List ℕ → Type 0
+WroteOutput command old new bytes = (text : List ℕ) × IsOutput command bytes text × Appends old.held new.held text
 
 -- a prefix of the output was written
-abbrev pub WrotePart : Channels → Channels → List ℕ → Type 0
-WrotePart old new bytes = (text : List ℕ) × IsOutput bytes text × AppendsPrefix old.held new.held text
+abbrev pub WrotePart : Command → Channels → Channels → List ℕ → Type 0
+WrotePart command old new bytes = (text : List ℕ) × IsOutput command bytes text × AppendsPrefix old.held new.held text
 
--- no cause holds, and the form is built
-abbrev pub IsTaken : List ℕ → Type 0
-IsTaken bytes = (¬ IsRefused bytes) × (¬ IsUnbuilt bytes)
+-- something holds of the bytes read, where a command reads and the source tells them, or else of none
+abbrev pub OnBytes : Bool → Option (List ℕ) → (List ℕ → Type 0) → Type 0
+OnBytes true left P = IfSome left P
+OnBytes false left P = P []
 
--- the causes of each status, in the order in which they are tried, and what it leaves
+-- a command that reads has read its whole input, within the limit and without a cause; another one left the
+-- source as it was
+abbrev pub ReadInput : Bool → Channels → Channels → (List ℕ → Type 0) → Type 0
+ReadInput true old new P = IfSome old.left (λ bytes. (length bytes ≤ input_limit) × (¬ IsRefused bytes) × P bytes) × IsAtEnd new.left
+ReadInput false old new P = P [] × IsUntouched old new
+
+-- a command that reads is asked for
+abbrev pub AsksToRead : List (List ℕ) → Type 0
+AsksToRead words = (command : Command) × (command_of words ≡ Some command) × (reads command ≡ true)
+
+-- the causes of each status, and what it leaves
 abbrev pub Holds : List (List ℕ) → Channels → Channels → Status → Type 0
-Holds words old new Usage = (is_run words ≡ false) × IsUntouched old new × IsUnwritten old new
+Holds words old new Usage = (command_of words ≡ None) × IsUntouched old new × IsUnwritten old new
+Holds words old new NoMemory =
+    TakesAtMost old.left new.left input_limit × IsUnwritten old new
+    × ((command : Command) → command_of words ≡ Some command → reads command ≡ false → IsUntouched old new)
 Holds words old new ReadFault =
-    (is_run words ≡ true) × Rose old.reads new.reads × TakesAtMost old.left new.left input_limit × IsUnwritten old new
+    AsksToRead words × Rose old.reads new.reads × TakesAtMost old.left new.left input_limit × IsUnwritten old new
 Holds words old new TooLong =
-    (is_run words ≡ true) × IfSome old.left (λ bytes. input_limit < length bytes) × Takes old.left new.left (input_limit + 1) × IsUnwritten old new
-Holds words old new NotYet =
-    (is_run words ≡ true) × IfSome old.left (λ bytes. (length bytes ≤ input_limit) × IsUnbuilt bytes × ¬ IsRefused bytes) × IsAtEnd new.left × IsUnwritten old new
+    AsksToRead words × IfSome old.left (λ bytes. input_limit < length bytes) × Takes old.left new.left (input_limit + 1) × IsUnwritten old new
 Holds words old new (Refused index cause) =
-    (is_run words ≡ true) × IfSome old.left (λ bytes. (length bytes ≤ input_limit) × IsRefusedBy bytes index cause × ¬ IsUnbuilt bytes) × IsAtEnd new.left × IsUnwritten old new
+    AsksToRead words × IfSome old.left (λ bytes. (length bytes ≤ input_limit) × IsRefusedBy bytes index cause) × IsAtEnd new.left × IsUnwritten old new
 Holds words old new WriteFault =
-    (is_run words ≡ true) × IfSome old.left (λ bytes. (length bytes ≤ input_limit) × WrotePart old new bytes × EveryRunIsSafe bytes × IsTaken bytes) × IsAtEnd new.left × Rose old.writes new.writes
-Holds words old new NoMemory = (is_run words ≡ true) × TakesAtMost old.left new.left input_limit × IsUnwritten old new
+    (command : Command) × (command_of words ≡ Some command)
+    × ReadInput (reads command) old new (λ bytes. WrotePart command old new bytes × RunsAreSafe command bytes) × Rose old.writes new.writes
 Holds words old new Done =
-    (is_run words ≡ true) × IfSome old.left (λ bytes. (length bytes ≤ input_limit) × WroteOutput old new bytes × EveryRunIsSafe bytes × IsTaken bytes) × IsAtEnd new.left
+    (command : Command) × (command_of words ≡ Some command)
+    × ReadInput (reads command) old new (λ bytes. WroteOutput command old new bytes × RunsAreSafe command bytes)
 
 -- a cause's name, and where it holds
 unfoldable pub cause_text : Cause → List ℕ
@@ -78,6 +91,9 @@ cause_text (OutOfRange field) = codes "OutOfRange field " ++ decimal field
 cause_text StepsTwice = codes "StepsTwice"
 cause_text TooMany = codes "TooMany"
 cause_text NoSteps = codes "NoSteps"
+cause_text NoSuchAgent = codes "NoSuchAgent"
+cause_text PostOrder = codes "PostOrder"
+cause_text GoalTwice = codes "GoalTwice"
 cause_text (AgentOnSegment agent segment) = codes "AgentOnSegment agent " ++ decimal agent ++ codes " segment " ++ decimal segment
 
 -- the line of each status on the error output
@@ -89,7 +105,6 @@ message_of (Refused index cause) = codes "refused: record " ++ decimal index ++ 
 message_of ReadFault = codes "read fault\n"
 message_of WriteFault = codes "write fault\n"
 message_of TooLong = codes "input too long\n"
-message_of NotYet = codes "not yet\n"
 
 -- the error output gained the line of the status, or a prefix of it where its count of faults rose
 pub record Reports (old new : Option (List ℕ)) (before now : ℕ) (status : Status) : Type 0 where

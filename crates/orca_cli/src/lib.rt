@@ -1,17 +1,25 @@
-//! The top call: the words of a command, bytes in, bytes out, and a status.
+//! The top calls: the words of a command, bytes in, bytes out, and a status.
 #![tactic(auto)]
 
+mod accepted;
 mod commands;
+mod input;
+mod output;
 mod run;
+mod scripted;
+mod soak;
 mod status;
 mod top_call;
-mod words;
 
 pub use commands::offline;
 pub use top_call::orca;
 
 #[cfg(test)]
+mod command_tests;
+#[cfg(test)]
 mod crowd_tests;
+#[cfg(test)]
+mod post_tests;
 #[cfg(test)]
 mod tests;
 #[cfg(test)]

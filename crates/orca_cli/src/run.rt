@@ -5,7 +5,8 @@ ghost use Rattle.crowd_data.specs.Run.{scripts_of, start_of};
 ghost use Rattle.frame_text.specs.Transcript.{IsTranscript};
 ghost use Rattle.orca_cli.specs.Behind.{IsTextBehind};
 
-use crowd_data::{Post, push_script};
+use crate::scripted::step_scripted;
+use crowd_data::Post;
 use fixed_vec::List;
 use frame_step::Stepper;
 use frame_text::{write_end, write_frame, write_scenario};
@@ -26,10 +27,7 @@ fn write_steps<T: Sink, G: Gate + Sync>(
     let steps = stepper.scenario().steps();
     let mut place = 0;
     while stepper.frame().number < steps {
-        let number = stepper.frame().number + 1;
-        script.clear();
-        place = push_script(script, stepper.scenario().posts(), place, number);
-        stepper.step_gated(script.items(), gate);
+        place = step_scripted(stepper, script, place, gate);
         write_frame(out, stepper.frame(), script.items())?;
     }
     write_end(out, stepper.frame().number)

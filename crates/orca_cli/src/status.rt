@@ -11,7 +11,7 @@ use scenario_read::Cause;
 pub(crate) enum Status {
     /// The whole output was written.
     Done,
-    /// Want of memory.
+    /// Memory ran out.
     NoMemory,
     /// The words are no command's.
     Usage,
@@ -23,8 +23,6 @@ pub(crate) enum Status {
     WriteFault,
     /// More bytes came than an input may have.
     TooLong,
-    /// The input has a form that isn't built yet.
-    NotYet,
 }
 
 /// The status as the program ends with it.
@@ -39,7 +37,6 @@ pub(crate) fn code(status: Status) -> u8
         Status::ReadFault => 4,
         Status::WriteFault => 5,
         Status::TooLong => 6,
-        Status::NotYet => 8,
     }
 }
 
@@ -65,6 +62,9 @@ fn put_cause(line: &mut Line, cause: Cause)
         Cause::StepsTwice => line.put(b"StepsTwice"),
         Cause::TooMany => line.put(b"TooMany"),
         Cause::NoSteps => line.put(b"NoSteps"),
+        Cause::NoSuchAgent => line.put(b"NoSuchAgent"),
+        Cause::PostOrder => line.put(b"PostOrder"),
+        Cause::GoalTwice => line.put(b"GoalTwice"),
         Cause::AgentOnSegment { agent, segment } => {
             line.put(b"AgentOnSegment agent ");
             line.put_number(agent);
@@ -94,7 +94,6 @@ fn message(status: Status) -> Line
         Status::ReadFault => line.put(b"read fault\n"),
         Status::WriteFault => line.put(b"write fault\n"),
         Status::TooLong => line.put(b"input too long\n"),
-        Status::NotYet => line.put(b"not yet\n"),
     }
     line
 }

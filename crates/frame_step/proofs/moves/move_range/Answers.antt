@@ -1,25 +1,21 @@
-use Rattle.std.proofs.Common.{◌≡◌, ◌∙◌, [], ◌∷◌, ◌++◌, ◌<◌, ◌+◌, ◌-◌, subst, arith, ℕ, length}
+use Rattle.std.proofs.Common.{◌≡◌, ◌∙◌, [], ◌∷◌, ◌++◌, ◌<◌, ◌+◌, ◌-◌, ap, subst, arith, ℕ, length}
 use Rattle.std.proofs.lemmas.List.{length_push}
-use Rattle.crowd_data.specs.Run.{snapshot_of}
+use Rattle.crowd_data.specs.Advice.{IsAdvice}
+use Rattle.crowd_data.specs.Run.{Snapshot, crowd_of, snapshot_of}
 use Rattle.frame_step.specs.Moved.{AppendsMoved, MovesTo}
 use Rattle.frame_step.proofs.MovedBodies.{body_moved, moved_more, moved_none}
-use Rattle.frame_step.proofs.Present.{places_below}
 use Rattle.frame_step.proofs.moves.move_range.Goals as goal
-
-pub advise-advice-requires-clause-near : goal.advise-advice-requires-clause-near
-advise-advice-requires-clause-near c =
-    let few = c.steps-valid.ensures.valid.steps in
-    rw (c.requires.places) (places_below _ _ c.args.frame.now.number (omega (arith, c.requires.present.number, few)) c.requires.present.bodies)
 
 pub loop-who-preserved : goal.loop-who-preserved
 loop-who-preserved c =
     let so_far = c.loop-who.invariant in
-    let scenario = c.args.scenario.now in
+    let scenario = c.args.crowd.now.scenario in
     let frame = snapshot_of c.args.frame.now in
     let who = c.loop-who.who in
     let here : who < length frame.bodies = omega (arith, c.requires.present.full, c.requires.agents, c.loop-who-test.true) in
+    let advice = subst (λ (f : Snapshot). IsAdvice scenario.segments (crowd_of scenario.agents f.bodies) who c.advise-advice.result.vel c.advise-advice.result.mark c.advise-advice.result.relief) c.requires.frame c.advise-advice.ensures.advice in
     let body : MovesTo scenario frame who c.moved.result = body_moved scenario frame who _ c.moved.result c.advise-advice.result.vel c.advise-advice.result.mark c.advise-advice.result.relief here
-    (rw c.items-bodies.ensures at c.advise-advice.ensures.advice) c.advise-advice.ensures.slow (rw c.items-bodies.ensures at c.moved.ensures) in
+    advice c.advise-advice.ensures.slow (rw c.items-bodies.ensures at c.moved.ensures) in
     let place : who ≡ c.args.from + (who - c.args.from) = omega arith in
     let next : who - c.args.from + 1 ≡ who + 1 - c.args.from = omega arith in
     let all = moved_more scenario frame c.args.from c.args.next.now.items (who - c.args.from) c.loop-who.next.items c.moved.result so_far.moved (subst (λ n. MovesTo scenario frame n c.moved.result) place body) in

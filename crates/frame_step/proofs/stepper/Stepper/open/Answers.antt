@@ -1,8 +1,8 @@
 use Rattle.std.proofs.Common.{◌∙◌, ap, arith, length, sym, subst}
-use Rattle.crowd_data.specs.Run.{Snapshot}
+use Rattle.crowd_data.specs.Run.{Snapshot, snapshot_of}
 use Rattle.crowd_data.proofs.Frames.{length-starting_bodies, start_present}
 use Rattle.agent_kdtree.specs.Stands.{HasRoomFor}
-use Rattle.agent_step.proofs.CrowdPlaces.{length-places}
+use Rattle.frame_step.proofs.Present.{length-placed}
 use Rattle.frame_step.proofs.stepper.Stepper.open.Goals as goal
 
 pub place_all-requires-clause-full : goal.place_all-requires-clause-full
@@ -14,7 +14,7 @@ pub open-requires-3 : goal.open-requires-3
 open-requires-3 c =
     let full = ap (λ (s : Snapshot). length s.bodies) c.in_ok-frame.ensures ∙ length-starting_bodies 0 c.args.scenario.agents in
     let are = c.items-2.ensures ∙ (rw (c.agents-2.ensures.value, c.items.ensures) at c.place_all.ensures.places) in
-    omega (arith, length-places _ _ _ full are, c.agents-2.ensures.valid.agent_count)
+    omega (arith, length-placed c.args.scenario (snapshot_of c.in_ok-frame.frame) _ full are, c.agents-2.ensures.valid.agent_count)
 
 pub invariant_of-result : goal.invariant_of-result
 invariant_of-result c =
@@ -27,6 +27,6 @@ invariant_of-result c =
       polygons = rw c.agents.ensures.value at c.in_ok-polygons.ensures;
       bodies = omega (arith, count, c.in_ok-next.ensures.room);
       places = omega (arith, ap length c.agents-2.ensures.value, c.place_all.ensures.room);
-      tree = subst (HasRoomFor c.in_ok-tree.tree) (length-places _ _ _ full are) c.in_ok-tree.ensures;
+      tree = subst (HasRoomFor c.in_ok-tree.tree) (length-placed c.args.scenario (snapshot_of c.in_ok-frame.frame) _ full are) c.in_ok-tree.ensures;
       planes = omega (arith, ap length c.segments.ensures.value, c.in_ok-scratch.ensures);
     }

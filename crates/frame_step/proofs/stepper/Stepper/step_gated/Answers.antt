@@ -1,8 +1,7 @@
 use Rattle.std.proofs.Common.{◌≡◌, ◌∙◌, ◌-◌, ap, arith, length, sym, subst}
 use Rattle.crowd_data.specs.Run.{snapshot_of}
 use Rattle.agent_kdtree.specs.Stands.{HasRoomFor}
-use Rattle.agent_step.proofs.CrowdPlaces.{all_placed, length-places}
-use Rattle.frame_step.proofs.Present.{places_below}
+use Rattle.frame_step.proofs.Present.{all_placed, length-placed}
 use Rattle.frame_step.proofs.Stepping.{frozen_present, made_next, made_present, made_safe}
 use Rattle.frame_step.proofs.stepper.Stepper.step_gated.Goals as goal
 
@@ -17,18 +16,17 @@ rebuild-requires-clause-room g c =
     let ready = c.self.invariant in
     let still = frozen_present c.self.inside.scenario (snapshot_of c.self.inside.frame) c.args.posts.now _ ready.valid ready.present (rw (← c.self.view_is) at c.requires.posts) c.take_all.ensures.items in
     let are = c.items-2.ensures ∙ (rw (c.agents-agents.ensures.value, c.items.ensures) at c.place_all.ensures.places) in
-    subst (HasRoomFor c.self.inside.tree) (sym (length-places _ _ _ still.full are)) ready.tree
+    subst (HasRoomFor c.self.inside.tree) (sym (length-placed _ _ _ still.full are)) ready.tree
 
 pub rebuild-requires-clause-placed : goal.rebuild-requires-clause-placed
 rebuild-requires-clause-placed g c =
     let ready = c.self.invariant in
     let still = frozen_present c.self.inside.scenario (snapshot_of c.self.inside.frame) c.args.posts.now _ ready.valid ready.present (rw (← c.self.view_is) at c.requires.posts) c.take_all.ensures.items in
     let are = c.items-2.ensures ∙ (rw (c.agents-agents.ensures.value, c.items.ensures) at c.place_all.ensures.places) in
-    all_placed _ _ _ still.full are ready.valid.agents
-    (rw are (places_below _ _ c.self.inside.frame.number (omega (arith, ready.present.number, ready.valid.steps)) still.bodies))
+    all_placed _ _ _ ready.valid still are
 
-pub move_range-requires-clause-present : goal.move_range-requires-clause-present
-move_range-requires-clause-present g c =
+pub of-crowd-requires-clause-present : goal.of-crowd-requires-clause-present
+of-crowd-requires-clause-present g c =
     let ready = c.self.invariant in
     frozen_present c.self.inside.scenario (snapshot_of c.self.inside.frame) c.args.posts.now _ ready.valid ready.present (rw (← c.self.view_is) at c.requires.posts) c.take_all.ensures.items
 
@@ -46,7 +44,7 @@ invariant_of-self g c =
       polygons = ready.polygons;
       bodies = rw (c.swap.ensures.y_after) (omega (arith, still.full));
       places = omega (arith, ap length c.agents-agents.ensures.value, c.place_all.ensures.room);
-      tree = subst (HasRoomFor c.rebuild.new.self) (length-places _ _ _ still.full are) c.rebuild.ensures.stands.room;
+      tree = subst (HasRoomFor c.rebuild.new.self) (length-placed _ _ _ still.full are) c.rebuild.ensures.stands.room;
       planes = rw (c.move_range.ensures.planes) ready.planes;
     }
 

@@ -1,0 +1,20 @@
+-- The limits of a command's numbers.
+use Rattle.std.specs.Prelude.{ℕ, ◌≤◌}
+use Rattle.command_words.specs.declared.commands.Command.{Command}
+use Rattle.command_words.specs.declared.commands.Command.TheVariants as command
+
+abbrev pub IsWorkers : ℕ → Type 0
+IsWorkers workers = (1 ≤ workers) × (workers ≤ 64)
+
+-- the numbers of a generated crowd
+pub record IsCrowd (number agents steps : ℕ) : Type 0 where
+  pub number_most : number ≤ 65535
+  pub some_agents : 1 ≤ agents
+  pub agents_most : agents ≤ 10000
+  pub steps_most : steps ≤ 100000
+
+abbrev pub IsSized : Command → Type 0
+IsSized (command.Run workers) = IsWorkers workers
+IsSized command.Check = Unit {0}
+IsSized (command.Sample number agents steps) = IsCrowd number agents steps
+IsSized (command.Soak number agents steps workers) = IsCrowd number agents steps × IsWorkers workers

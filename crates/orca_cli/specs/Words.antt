@@ -1,9 +1,0 @@
--- The words of the command line.
-use Rattle.std.specs.Prelude.{ℕ, Bool, false, List, [], ◌∷◌, codes}
-use Rattle.std.specs.Str.{bytes_eq}
-
--- the one command: the word run
-abbrev pub is_run : List (List ℕ) → Bool
-is_run [] = false
-is_run (word ∷ []) = bytes_eq word (codes "run")
-is_run (word ∷ next ∷ rest) = false

@@ -1,0 +1,33 @@
+// A step with the scripted posts of its frame.
+ghost use Rattle.std.specs.Prelude.{◌≡◌, ◌+◌, ◌<◌, ◌≤◌, length};
+ghost use Rattle.crowd_data.specs.Run.{IsNext, script_of};
+ghost use Rattle.crowd_data.specs.Scripts.{IsCursor};
+
+use crowd_data::{Post, push_script};
+use fixed_vec::List;
+use frame_step::Stepper;
+use outside_io::Gate;
+
+/// Makes the next frame with its scripted posts, which it leaves in `script`. `place` is where they begin
+/// among all scripted posts; the answer is where those of later frames begin.
+pub(crate) fn step_scripted<G: Gate + Sync>(
+    stepper: &mut Stepper,
+    script: &mut List<Post>,
+    place: usize,
+    gate: &G,
+) -> usize
+    requires below { stepper.old.frame.number < stepper.old.scenario.steps }
+    requires cursor { IsCursor stepper.old.scenario.posts (stepper.old.frame.number + 1) place }
+    requires room { length stepper.old.scenario.posts ≤ length script.old.items + script.old.spare }
+    ensures scenario { stepper.new.scenario ≡ stepper.old.scenario }
+    ensures next { IsNext stepper.old.scenario stepper.old.frame script.new.items stepper.new.frame }
+    ensures script { script.new.items ≡ script_of stepper.old.scenario (stepper.old.frame.number + 1) }
+    ensures cursor { IsCursor stepper.old.scenario.posts (stepper.new.frame.number + 1) result }
+    ensures room { length script.new.items + script.new.spare ≡ length script.old.items + script.old.spare }
+{
+    let number = stepper.frame().number + 1;
+    script.clear();
+    let later = push_script(script, stepper.scenario().posts(), place, number);
+    stepper.step_gated(script.items(), gate);
+    later
+}
