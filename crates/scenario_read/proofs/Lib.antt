@@ -3,3 +3,5 @@ pub mod Boms
 mod SoFar
 mod ScenarioRecords
 mod PostOrder
+mod GeneratedParts
+mod GeneratedSteps

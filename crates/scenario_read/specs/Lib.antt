@@ -12,3 +12,4 @@ pub mod Reading
 pub mod Part
 pub mod Additions
 pub mod Remaining
+pub mod Generator

@@ -1,10 +1,13 @@
-//! Reads scenarios: bytes, the records that `csv` gives for them, and what the records stand for.
+//! Reads scenarios: bytes, the records that `csv` gives for them, and what the records stand for. It also
+//! generates scenarios from a number.
 #![tactic(auto)]
 
 mod agent_record;
 mod cause;
+mod draws;
 mod ending;
 mod fields;
+mod generator;
 mod goal_record;
 mod motion;
 mod part;
@@ -20,8 +23,11 @@ mod steps_record;
 mod values;
 
 pub use cause::{Cause, ScenarioFault};
+pub use generator::generate;
 pub use part::Part;
 pub use read::{read_part, read_scenario};
 
+#[cfg(test)]
+mod generator_tests;
 #[cfg(test)]
 mod tests;
