@@ -2,5 +2,6 @@ mod Numerals
 mod Rows
 mod Lines
 mod Values
-mod Taken
+mod RowsAdded
+mod Prefixes
 mod Accepted

@@ -5,8 +5,10 @@ use Rattle.std.specs.Fmt.{decimal, signed_decimal}
 use Rattle.csv.specs.declared.parser.State.TheVariants as st
 use Rattle.crowd_data.specs.declared.agent.Agent.{Agent}
 use Rattle.crowd_data.specs.declared.segment.Segment.{Segment}
-use Rattle.crowd_data.specs.Limits.{IsAgent, IsSegment}
-use Rattle.frame_text.specs.Lines.{agent_line, header_line, segment_line, steps_line, vector_text}
+use Rattle.crowd_data.specs.declared.post.ScriptPost.{ScriptPost}
+use Rattle.crowd_data.specs.declared.post.Goal.{Goal}
+use Rattle.crowd_data.specs.Limits.{IsAgent, IsGoal, IsScriptPost, IsSegment}
+use Rattle.frame_text.specs.Lines.{agent_line, goal_line, header_line, post_line, segment_line, steps_line, vector_text}
 use Rattle.scenario_read.specs.Records.{Record, records_after}
 use Rattle.text_law.proofs.Numerals.{decimal_plain, signed_plain}
 use Rattle.text_law.proofs.Rows.{ArePlain, fields_then, row_read}
@@ -31,6 +33,18 @@ segment_numbers s = signed_decimal s.a.x ∷ signed_decimal s.a.y ∷ signed_dec
 abbrev pub segment_row : Segment → Record
 segment_row s = codes "segment" ∷ segment_numbers s
 
+abbrev post_numbers : ScriptPost → Record
+post_numbers p = decimal p.frame ∷ decimal p.agent ∷ signed_decimal p.vel.x ∷ signed_decimal p.vel.y ∷ []
+
+abbrev pub post_row : ScriptPost → Record
+post_row p = codes "post" ∷ post_numbers p
+
+abbrev goal_numbers : Goal → Record
+goal_numbers g = decimal g.controller ∷ decimal g.agent ∷ signed_decimal g.at.x ∷ signed_decimal g.at.y ∷ decimal g.pace ∷ []
+
+abbrev pub goal_row : Goal → Record
+goal_row g = codes "goal" ∷ goal_numbers g
+
 -- ---- the lines as rows
 
 steps_text : (n : ℕ) (tail : List ℕ) → steps_line n ++ tail ≡ codes "steps" ++ fields_then (decimal n ∷ []) tail
@@ -45,6 +59,24 @@ segment_text : (s : Segment) (tail : List ℕ) → segment_line s ++ tail ≡ co
 unfolding segment_line vector_text
 segment_text s tail = simp append_assoc
 
+-- two fields and a vector, each behind its text
+two_and_vector : (k s a b x y n tail : List ℕ) → k ++ a ++ s ++ b ++ s ++ (x ++ s ++ y) ++ n ++ tail ≡ k ++ (a ++ (s ++ (b ++ (s ++ (x ++ (s ++ (y ++ (n ++ tail))))))))
+two_and_vector k s a b x y n tail = simp append_assoc
+
+-- and one field more
+two_vector_and_one : (k s a b x y c n tail : List ℕ)
+    → k ++ a ++ s ++ b ++ s ++ (x ++ s ++ y) ++ s ++ c ++ n ++ tail ≡ k ++ (a ++ (s ++ (b ++ (s ++ (x ++ (s ++ (y ++ (s ++ (c ++ (n ++ tail))))))))))
+two_vector_and_one k s a b x y c n tail = simp append_assoc
+
+post_text : (p : ScriptPost) (tail : List ℕ) → post_line p ++ tail ≡ codes "post" ++ fields_then (post_numbers p) tail
+unfolding post_line vector_text
+post_text p tail = two_and_vector (codes "post,") (codes ",") (decimal p.frame) (decimal p.agent) (signed_decimal p.vel.x) (signed_decimal p.vel.y) (codes "\n") tail
+
+goal_text : (g : Goal) (tail : List ℕ) → goal_line g ++ tail ≡ codes "goal" ++ fields_then (goal_numbers g) tail
+unfolding goal_line vector_text
+goal_text g tail =
+    two_vector_and_one (codes "goal,") (codes ",") (decimal g.controller) (decimal g.agent) (signed_decimal g.at.x) (signed_decimal g.at.y) (decimal g.pace) (codes "\n") tail
+
 -- ---- the lines as records
 
 steps_plain : (n : ℕ) → n ≤ 100000 → ArePlain (steps_row n)
@@ -55,6 +87,13 @@ agent_plain a h = search (rules, decimal_plain, signed_plain)
 
 segment_plain : (s : Segment) → IsSegment s → ArePlain (segment_row s)
 segment_plain s h = search (rules, signed_plain)
+
+-- a post of a scenario with some steps and agents within their limits
+post_plain : (steps agents : ℕ) → steps ≤ 100000 → agents ≤ 10000 → (p : ScriptPost) → IsScriptPost steps agents p → ArePlain (post_row p)
+post_plain steps agents few_steps few_agents p h = search (rules, decimal_plain, signed_plain)
+
+goal_plain : (agents : ℕ) → agents ≤ 10000 → (g : Goal) → IsGoal agents g → ArePlain (goal_row g)
+goal_plain agents few_agents g h = search (rules, decimal_plain, signed_plain)
 
 pub header_reads : (tail : List ℕ) → records_after st.StartRecord (header_line ++ tail) ≡ header_row ∷ records_after st.StartRecord tail
 unfolding header_line
@@ -70,3 +109,13 @@ agent_reads a tail h =
 pub segment_reads : (s : Segment) (tail : List ℕ) → IsSegment s → records_after st.StartRecord (segment_line s ++ tail) ≡ segment_row s ∷ records_after st.StartRecord tail
 segment_reads s tail h =
     ap (records_after st.StartRecord) (segment_text s tail) ∙ row_read (codes "segment") (signed_decimal s.a.x) _ tail (segment_plain s h)
+
+pub post_reads : (steps agents : ℕ) → steps ≤ 100000 → agents ≤ 10000 → (p : ScriptPost) (tail : List ℕ) → IsScriptPost steps agents p
+    → records_after st.StartRecord (post_line p ++ tail) ≡ post_row p ∷ records_after st.StartRecord tail
+post_reads steps agents few_steps few_agents p tail h =
+    ap (records_after st.StartRecord) (post_text p tail) ∙ row_read (codes "post") (decimal p.frame) _ tail (post_plain steps agents few_steps few_agents p h)
+
+pub goal_reads : (agents : ℕ) → agents ≤ 10000 → (g : Goal) (tail : List ℕ) → IsGoal agents g
+    → records_after st.StartRecord (goal_line g ++ tail) ≡ goal_row g ∷ records_after st.StartRecord tail
+goal_reads agents few_agents g tail h =
+    ap (records_after st.StartRecord) (goal_text g tail) ∙ row_read (codes "goal") (decimal g.controller) _ tail (goal_plain agents few_agents g h)

@@ -6,12 +6,19 @@ use Rattle.csv.specs.Records.{field_at}
 use Rattle.fixed_vec.specs.declared.vector.V2.{V2}
 use Rattle.crowd_data.specs.declared.agent.Agent.{Agent}
 use Rattle.crowd_data.specs.declared.segment.Segment.{Segment}
-use Rattle.crowd_data.specs.Limits.{IsAgent, IsSegment, IsWithin}
+use Rattle.crowd_data.specs.declared.post.ScriptPost.{ScriptPost}
+use Rattle.crowd_data.specs.declared.post.Goal.{Goal}
+use Rattle.crowd_data.specs.Limits.{IsAgent, IsGoal, IsScriptPost, IsSegment, IsWithin}
+use Rattle.scenario_read.specs.AgentRecord.{agent_of, agent_with, motion_in}
 use Rattle.scenario_read.specs.Fields.{field_text}
 use Rattle.scenario_read.specs.Numbers.{number_of}
-use Rattle.scenario_read.specs.Reading.{agent_of, agent_with, count_in, motion_in, number_in, segment_of, steps_of, vector_in}
+use Rattle.scenario_read.specs.GoalRecord.{goal_of}
+use Rattle.scenario_read.specs.PostRecord.{post_of}
 use Rattle.scenario_read.specs.Records.{Record}
-use Rattle.text_law.proofs.Lines.{agent_row, segment_row, steps_row}
+use Rattle.scenario_read.specs.SegmentRecord.{segment_of}
+use Rattle.scenario_read.specs.StepsRecord.{steps_of}
+use Rattle.scenario_read.specs.Values.{count_in, number_in, vector_in}
+use Rattle.text_law.proofs.Lines.{agent_row, goal_row, post_row, segment_row, steps_row}
 use Rattle.text_law.proofs.Numerals.{decimal_read, signed_read}
 
 -- ---- a field
@@ -62,4 +69,28 @@ agent_is a h =
       count_is fields 10 0 64 a.most refl (omega arith) h.build.most (omega arith),
       count_is fields 11 1 4096 a.horizon refl h.build.some_horizon h.build.horizon (omega arith),
       count_is fields 12 1 4096 a.wall_horizon refl h.build.some_wall_horizon h.build.wall_horizon (omega arith),
+    ) refl
+
+pub post_is : (steps agents : ℕ) → steps ≤ 100000 → agents ≤ 10000 → (p : ScriptPost) → IsScriptPost steps agents p → post_of (post_row p) ≡ Ok p
+unfolding post_of field_at
+post_is steps agents few_steps few_agents p h =
+    let fields = post_row p in
+    let frame : p.frame ≤ 100000 = omega (arith, h.frame) in
+    let agent : p.agent ≤ 9999 = omega (arith, h.agent) in
+    rw (
+      count_is fields 1 1 100000 p.frame refl h.some_frame frame (omega arith),
+      count_is fields 2 0 9999 p.agent refl (omega arith) agent (omega arith),
+      vector_is fields 3 4 16384 p.vel refl refl h.vel (omega arith),
+    ) refl
+
+pub goal_is : (agents : ℕ) → agents ≤ 10000 → (g : Goal) → IsGoal agents g → goal_of (goal_row g) ≡ Ok g
+unfolding goal_of field_at
+goal_is agents few_agents g h =
+    let fields = goal_row g in
+    let agent : g.agent ≤ 9999 = omega (arith, h.agent) in
+    rw (
+      count_is fields 1 0 15 g.controller refl (omega arith) h.controller (omega arith),
+      count_is fields 2 0 9999 g.agent refl (omega arith) agent (omega arith),
+      vector_is fields 3 4 4194304 g.at refl refl h.at (omega arith),
+      count_is fields 5 0 16384 g.pace refl (omega arith) h.pace (omega arith),
     ) refl

@@ -1,5 +1,4 @@
--- What a text is for: that of a scenario of the kinds built reads back as that scenario.
-use Rattle.std.specs.Prelude.{◌≡◌, []}
+-- What a text is for: that of a scenario reads back as that scenario.
 use Rattle.crowd_data.specs.Scenario.{IsValid, Parts}
 use Rattle.frame_text.specs.Transcript.{scenario_text}
 use Rattle.scenario_read.specs.Reading.{IsAccepted}
@@ -7,4 +6,4 @@ use Rattle.scenario_read.specs.Records.{records_of}
 
 -- the records of the scenario's text are accepted as that scenario
 abbrev pub ReadsBack : Parts → Type 0
-ReadsBack scenario = IsValid scenario → scenario.posts ≡ [] → scenario.goals ≡ [] → IsAccepted (records_of (scenario_text scenario)) scenario
+ReadsBack scenario = IsValid scenario → IsAccepted (records_of (scenario_text scenario)) scenario
