@@ -1,4 +1,5 @@
 mod TextBehind
 mod Written
+mod SummedUp
 mod Promises
-mod Working
+mod Worked

@@ -32,7 +32,8 @@ IsSame old new = Keeps old.left new.left × (new.faults ≡ old.faults)
 
 -- the scenario that a command is about was had
 abbrev pub HasScenario : Bool → Command → Input → Input → Parts → Type 0
-HasScenario true command old new scenario = IfSome old.left (λ bytes. (length bytes ≤ input_limit) × IsFor command bytes scenario) × IsAtEnd new.left
+HasScenario true command old new scenario =
+    IfSome old.left (λ bytes. (length bytes ≤ input_limit) × IsFor command bytes scenario) × IsAtEnd new.left × TakesAtMost old.left new.left input_limit
 HasScenario false command old new scenario = ((bytes : List ℕ) → IsFor command bytes scenario) × IsSame old new
 
 -- or why not

@@ -1,6 +1,7 @@
 // The scenario that a command is about.
 ghost use Rattle.std.specs.Prelude.{◌≡◌, ◌≤◌, IfErr, IfOk, IfSome, length};
 ghost use Rattle.std.specs.Io.KnownBytes.{IsAtEnd};
+ghost use Rattle.outside_io.specs.Causes.{TakesAtMost};
 ghost use Rattle.orca_cli.specs.Output.{IsScenarioOf, reads};
 ghost use Rattle.orca_cli.specs.Status.{input_limit};
 ghost use Rattle.orca_cli.specs.Working.{HasNone, HasScenario, IsInputFault};
@@ -20,7 +21,7 @@ const INPUT_LIMIT: usize = 16_777_216;
 
 // The scenario that the bytes of the source stand for.
 fn scenario_of<S: Source>(alloc: Global, source: &mut S) -> Result<Scenario, Status>
-    ensures read { IfOk result (λ s. IfSome (S.left source.old) (λ bytes. (length bytes ≤ input_limit) × IsScenarioOf bytes s) × IsAtEnd (S.left source.new)) }
+    ensures read { IfOk result (λ s. IfSome (S.left source.old) (λ bytes. (length bytes ≤ input_limit) × IsScenarioOf bytes s) × IsAtEnd (S.left source.new) × TakesAtMost (S.left source.old) (S.left source.new) input_limit) }
     ensures fault { IfErr result (IsInputFault (record { left = S.left source.old; faults = S.faults source.old }) (record { left = S.left source.new; faults = S.faults source.new })) }
 {
     let bytes = match read_all(alloc, source, INPUT_LIMIT) {

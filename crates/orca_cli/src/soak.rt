@@ -1,0 +1,47 @@
+// The run of a scenario, summed up.
+ghost use Rattle.std.specs.Prelude.{◌≡◌, ◌+◌, ◌≤◌, ℕ, List, length};
+ghost use Rattle.outside_io.specs.Causes.{HasCause, Wrote};
+ghost use Rattle.crowd_data.specs.Run.{start_of};
+ghost use Rattle.run_summary.specs.Summary.{IsSummary};
+ghost use Rattle.orca_cli.specs.Behind.{SumsUp};
+
+use crate::scripted::step_scripted;
+use crowd_data::Post;
+use fixed_vec::List;
+use frame_step::Stepper;
+use outside_io::{Failed, Gate, Sink};
+use run_summary::{Summary, write_summary};
+
+// Makes all steps, of which none was made yet, and sums up their frames. One frame is held at a time.
+fn sum_up<G: Gate + Sync>(stepper: &mut Stepper, script: &mut List<Post>, gate: &G) -> Summary
+    requires start { stepper.old.frame.number ≡ 0 }
+    requires room { length stepper.old.scenario.posts ≤ length script.old.items + script.old.spare }
+    ensures scenario { stepper.new.scenario ≡ stepper.old.scenario }
+    ensures run { SumsUp stepper.old.scenario stepper.old.frame result stepper.new.frame }
+{
+    let steps = stepper.scenario().steps();
+    let mut place = 0;
+    let mut summary = Summary::empty();
+    while stepper.frame().number < steps {
+        place = step_scripted(stepper, script, place, gate);
+        summary.add(stepper.frame());
+    }
+    summary
+}
+
+/// Writes the summary of the run whose frame 0 is the present one, with its scripted posts. `script` has
+/// room for all of them.
+pub(crate) fn write_soak<T: Sink, G: Gate + Sync>(
+    out: &mut T,
+    stepper: &mut Stepper,
+    script: &mut List<Post>,
+    gate: &G,
+) -> Result<(), Failed>
+    requires start { stepper.old.frame ≡ start_of stepper.old.scenario }
+    requires room { length stepper.old.scenario.posts ≤ length script.old.items + script.old.spare }
+    ensures text { (text : List ℕ) × IsSummary stepper.old.scenario text × Wrote (T.held out.old) (T.held out.new) result text }
+    ensures cause { HasCause (T.faults out.old) (T.faults out.new) result }
+{
+    let summary = sum_up(stepper, script, gate);
+    write_summary(out, stepper.scenario(), &summary, stepper.frame())
+}
