@@ -20,7 +20,7 @@ const ONE_AGENT_LINES: [&[u8]; 8] = [
 
 const ROOM: usize = 100_000;
 
-fn bytes_of(alloc: Global, text: &[u8]) -> Result<List<u8>, NoMemory> {
+pub(crate) fn bytes_of(alloc: Global, text: &[u8]) -> Result<List<u8>, NoMemory> {
     let mut bytes = List::with_room(alloc, text.len())?;
     for byte in text {
         bytes.reserve(1)?;
@@ -40,10 +40,10 @@ fn fails_of(alloc: Global, call: Option<u32>) -> Result<List<u32>, NoMemory> {
 
 // What a call answered, and what both sinks hold.
 #[derive(Drop)]
-struct Ended {
-    status: u8,
-    out: MemSink,
-    err: MemSink,
+pub(crate) struct Ended {
+    pub status: u8,
+    pub out: MemSink,
+    pub err: MemSink,
 }
 
 // Which call of each end is to fail, if any.
@@ -66,6 +66,11 @@ fn run_on(alloc: Global, words: &[&str], input: List<u8>, faults: Faults) -> Res
     let mut err = MemSink::open(alloc, ROOM, fails_of(alloc, faults.err)?)?;
     let status = orca(alloc, words, &mut source, &mut out, &mut err, &OpenGate);
     Ok(Ended { status, out, err })
+}
+
+/// Runs the words over an input, where nothing fails.
+pub(crate) fn ask(alloc: Global, words: &[&str], input: &[u8]) -> Result<Ended, Fail> {
+    run_on(alloc, words, bytes_of(alloc, input)?, NONE)
 }
 
 fn run(alloc: Global, input: &[u8]) -> Result<Ended, Fail> {
@@ -189,24 +194,8 @@ fn input_is_one_byte_too_long(rt: HostRuntime) -> Result<(), Fail> {
 }
 
 #[test]
-fn forms_that_are_not_built(rt: HostRuntime) -> Result<(), Fail> {
-    let inputs: [&[u8]; 2] = [
-        // posts and goals, whatever else holds
-        b"crowd,1\nsteps,1\npost,1,0,0,0\n",
-        b"crowd,1\nsteps,x\ngoal,0,0,9,9,5\n",
-    ];
-    for input in inputs.iter() {
-        let ended = run(rt.alloc(), input)?;
-        assert_eq!(rt; ended.status, 8);
-        assert_eq!(rt; ended.out.held(), b"".as_slice());
-        assert_eq!(rt; ended.err.held(), b"not yet\n".as_slice());
-    }
-    Ok(())
-}
-
-#[test]
 fn names_the_first_cause(rt: HostRuntime) -> Result<(), Fail> {
-    let refused: [(&[u8], &[u8]); 12] = [
+    let refused: [(&[u8], &[u8]); 15] = [
         (b"", b"refused: record 0: NoHeader\n"),
         (b"crowd,2\nsteps,1\n", b"refused: record 0: NoHeader\n"),
         (b"crowd,1\n", b"refused: record 1: NoSteps\n"),
@@ -243,6 +232,18 @@ fn names_the_first_cause(rt: HostRuntime) -> Result<(), Fail> {
             b"refused: record 2: StepsTwice\n",
         ),
         (
+            b"crowd,1\nsteps,1\npost,1,0,0,0\n",
+            b"refused: record 2: NoSuchAgent\n",
+        ),
+        (
+            b"crowd,1\nsteps,5\nagent,0,0,0,0,0,0,500,400,15000,10,10,4\npost,3,0,0,0\npost,2,0,0,0\n",
+            b"refused: record 4: PostOrder\n",
+        ),
+        (
+            b"crowd,1\nsteps,1\nagent,0,0,0,0,0,0,500,400,15000,10,10,4\ngoal,0,0,9,9,5\ngoal,1,0,9,9,5\n",
+            b"refused: record 4: GoalTwice\n",
+        ),
+        (
             b"crowd,1\nsteps,1\nagent,0,0,0,0,0,0,500,400,15000,10,10,4\nsegment,-2000,499,2000,499\n",
             b"refused: record 4: AgentOnSegment agent 0 segment 0\n",
         ),
@@ -252,27 +253,6 @@ fn names_the_first_cause(rt: HostRuntime) -> Result<(), Fail> {
         assert_eq!(rt; ended.status, 3);
         assert_eq!(rt; ended.out.held(), b"".as_slice());
         assert_eq!(rt; ended.err.held(), *line);
-    }
-    Ok(())
-}
-
-#[test]
-fn words_that_are_no_command(rt: HostRuntime) -> Result<(), Fail> {
-    let lists: [&[&str]; 5] = [
-        &[],
-        &["walk"],
-        &["run", "run"],
-        &["run", "--workers", "2"],
-        &["Run"],
-    ];
-    for words in lists.iter() {
-        let ended = run_on(rt.alloc(), words, bytes_of(rt.alloc(), ONE_AGENT)?, NONE)?;
-        assert_eq!(rt; ended.status, 2);
-        assert_eq!(rt; ended.out.held(), b"".as_slice());
-        assert_eq!(rt;
-            ended.err.held(),
-            b"usage: crowd run|check|sample|soak|live\n".as_slice()
-        );
     }
     Ok(())
 }
