@@ -13,6 +13,8 @@ use Rattle.crowd_data.specs.Run.{Snapshot, crowd_of}
 use Rattle.crowd_data.specs.Scenario.{Parts}
 use Rattle.agent_kdtree.specs.declared.tree.Tree.{Tree}
 use Rattle.agent_kdtree.specs.Stands.{StandsFor}
+use Rattle.agent_step.specs.declared.wall_blocks.WallBlocks.{WallBlocks}
+use Rattle.agent_step.specs.WallBlocks.{StandsForWalls}
 
 -- a scenario and a frame of its run
 pub record FrozenState : Type 0 where
@@ -23,10 +25,12 @@ pub record FrozenState : Type 0 where
 abbrev pub agents_in : FrozenState → List Agent
 agents_in state = crowd_of state.scenario.agents state.frame.bodies
 
--- a frame of a scenario's run, with the speed polygons of its agents, their places in the frame and a tree over these
-pub record IsFrozen (scenario : Parts) (frame : Snapshot) (made : List (List Plane)) (standing : List Place) (index : Tree) : Type 0 where
+-- a frame of a scenario's run, with the speed polygons of its agents, its walls by blocks, the places of the agents in
+-- the frame and a tree over these
+pub record IsFrozen (scenario : Parts) (frame : Snapshot) (made : List (List Plane)) (blocks : WallBlocks) (standing : List Place) (index : Tree) : Type 0 where
   pub present : IsPresent scenario frame
   pub polygons : made ≡ map (λ (agent : Agent). ring_planes agent.speed) scenario.agents
+  pub walls : StandsForWalls blocks scenario.segments
   pub places : standing ≡ map place_of (crowd_of scenario.agents frame.bodies)
   pub tree : StandsFor index standing
 

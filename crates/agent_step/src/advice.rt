@@ -94,7 +94,7 @@ fn advise_freely(
 {
     let agent = crowd.agent(who);
     let planes = &mut scratch.planes;
-    fill_walls(planes, &agent, crowd.segments());
+    fill_walls(planes, &agent, crowd.walls());
     let walls = planes.items().len();
     push_shares(planes, crowd.agents(), crowd.bodies(), who, near);
     free_advice(planes.items(), walls, crowd.polygon(who), &agent)
@@ -112,7 +112,7 @@ fn advise_fully(crowd: &FrozenCrowd, who: usize, near: &[Near], scratch: &mut Sc
 {
     let agent = crowd.agent(who);
     let planes = &mut scratch.planes;
-    fill(planes, crowd.polygon(who), &agent, crowd.segments());
+    fill(planes, crowd.polygon(who), &agent, crowd.walls());
     let hard = planes.items().len();
     push_shares(planes, crowd.agents(), crowd.bodies(), who, near);
     advise_among(planes.items(), hard, &agent)

@@ -12,21 +12,25 @@ ghost use Rattle.agent_kdtree.specs.Seen.{seen_of};
 ghost use Rattle.agent_kdtree.specs.Stands.{StandsFor};
 ghost use Rattle.agent_step.specs.Frozen.{agents_in};
 ghost use Rattle.agent_step.specs.Sight.{ArePresent, seen_by};
+ghost use Rattle.agent_step.specs.WallBlocks.{StandsForWalls};
 
 use crate::polygons::Polygons;
+use crate::wall_blocks::WallBlocks;
 use agent_kdtree::{Near, Tree};
 use arrayvec::ArrayVec;
-use crowd_data::{Agent, Body, Frame, Place, Scenario, Segment};
+use crowd_data::{Agent, Body, Frame, Place, Scenario};
 use fixed_vec::HalfPlane;
 use std::marker::Model;
 
 /// The one frozen state that all advice of a step is taken from: a frame of a scenario's run, the speed
-/// polygons of the agents, their places in the frame, and a tree over these places.
+/// polygons of the agents, the walls by blocks, the agents' places in the frame, and a tree over these
+/// places.
 #[derive(Drop)]
 pub struct FrozenCrowd<'a> {
     scenario: &'a Scenario,
     frame: &'a Frame,
     polygons: &'a Polygons,
+    walls: &'a WallBlocks,
     places: &'a [Place],
     tree: &'a Tree,
 }
@@ -39,7 +43,7 @@ impl<'a> Model for FrozenCrowd<'a> {
 
     ghost view = { λ c. record { scenario = c.scenario.now; frame = snapshot_of c.frame.now } };
 
-    ghost invariant = { λ c. IsFrozen c.scenario.now (snapshot_of c.frame.now) c.polygons.now c.places.now c.tree.now };
+    ghost invariant = { λ c. IsFrozen c.scenario.now (snapshot_of c.frame.now) c.polygons.now c.walls.now c.places.now c.tree.now };
 }
 
 // The agent as it stands in a frame.
@@ -55,17 +59,20 @@ fn standing(agent: &Agent, body: &Body) -> Agent
 }
 
 impl<'a> FrozenCrowd<'a> {
-    /// The state of a frame of the scenario's run. The polygons are those of all agents, the places are
-    /// theirs in the frame, and the tree stands for the places.
+    /// The state of a frame of the scenario's run. The polygons are those of all agents, the walls stand
+    /// for the scenario's segments, the places are those of all agents in the frame, and the tree stands for
+    /// the places.
     pub fn of(
         scenario: &'a Scenario,
         frame: &'a Frame,
         polygons: &'a Polygons,
+        walls: &'a WallBlocks,
         places: &'a [Place],
         tree: &'a Tree,
     ) -> FrozenCrowd<'a>
         requires present { IsPresent scenario.now (snapshot_of frame.now) }
         requires polygons { polygons.now ≡ map (λ (agent : Agent). ring_planes agent.speed) scenario.now.agents }
+        requires walls { StandsForWalls walls.now scenario.now.segments }
         requires places { places.now ≡ map place_of (crowd_of scenario.now.agents frame.now.bodies.items) }
         requires stands { StandsFor tree.now places.now }
         ensures { result ≡ record { scenario = scenario.now; frame = snapshot_of frame.now } }
@@ -74,6 +81,7 @@ impl<'a> FrozenCrowd<'a> {
             scenario,
             frame,
             polygons,
+            walls,
             places,
             tree,
         }
@@ -85,11 +93,12 @@ impl<'a> FrozenCrowd<'a> {
         self.scenario.agents()
     }
 
-    pub(crate) fn segments(&self) -> &[Segment]
-        ensures value { result.now ≡ self.now.scenario.segments }
-        ensures valid { All IsSegment result.now }
+    pub(crate) fn walls(&self) -> &WallBlocks
+        ensures stands { StandsForWalls result.now self.now.scenario.segments }
+        ensures valid { All IsSegment self.now.scenario.segments }
     {
-        self.scenario.segments()
+        let _segments = self.scenario.segments();
+        self.walls
     }
 
     pub(crate) fn bodies(&self) -> &[Body]

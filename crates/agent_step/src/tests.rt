@@ -6,7 +6,7 @@ ghost use Rattle.crowd_data.specs.Advice.{place_of};
 ghost use Rattle.crowd_data.specs.Limits.{IsAgent, IsPosition, IsSegment, IsVelocity};
 ghost use Rattle.crowd_data.specs.Scenario.{IsValid};
 
-use crate::{Advice, FrozenCrowd, Polygons, Scratch, advise};
+use crate::{Advice, FrozenCrowd, Polygons, Scratch, WallBlocks, advise};
 use agent_kdtree::Tree;
 use crowd_data::{Agent, Mark, Place, Scenario, Segment, clear, first_frame};
 use fixed_vec::{List, NoMemory, V2, dot};
@@ -60,11 +60,12 @@ fn first_advice(alloc: Global, scenario: &Scenario, who: usize) -> Result<Advice
     ensures slow { IfOk result (λ a. IsVelocity a.vel) }
 {
     let polygons = Polygons::open(alloc, scenario.agents())?;
+    let walls = WallBlocks::open(alloc, scenario.segments())?;
     let mut scratch = Scratch::open(alloc, scenario.segments().len())?;
     let frame = first_frame(alloc, scenario)?;
     let places = places_of(alloc, scenario.agents())?;
     let tree = tree_over(alloc, places.items())?;
-    let crowd = FrozenCrowd::of(scenario, &frame, &polygons, places.items(), &tree);
+    let crowd = FrozenCrowd::of(scenario, &frame, &polygons, &walls, places.items(), &tree);
     Ok(advise(&crowd, who, &mut scratch))
 }
 

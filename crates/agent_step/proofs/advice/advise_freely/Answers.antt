@@ -2,6 +2,10 @@ use Rattle.std.proofs.Common.{◌≡◌, ◌∙◌, ◌⊎◌, ◌+◌, ◌++◌
 use Rattle.std.specs.Prelude.{IfSome}
 use Rattle.std.proofs.lemmas.List.{length-append}
 use Rattle.exact_algebra.proofs.Elements.{before_map}
+use Rattle.std.proofs.lemmas.List.Sorted.{All-permutation, length_permutation}
+use Rattle.crowd_data.specs.Limits.{IsSegment}
+use Rattle.crowd_data.specs.Walls.{IsClear}
+use Rattle.agent_step.proofs.AnyOrder.{moves_in_any_order}
 use Rattle.fixed_vec.specs.HalfPlane.{Plane}
 use Rattle.planar_program.specs.Met.{IsMet}
 use Rattle.crowd_data.specs.declared.agent.Agent.{Agent}
@@ -20,11 +24,22 @@ use Rattle.agent_step.proofs.Sight.{neighbours_seen}
 use Rattle.agent_step.proofs.SoftPlanes.{moves-at, present_as, soft_sized}
 use Rattle.agent_step.proofs.advice.advise_freely.Goals as goal
 
+pub fill_walls-requires-clause-room : goal.fill_walls-requires-clause-room
+fill_walls-requires-clause-room c =
+    let held : length c.scratch.inside.planes.items + c.scratch.inside.planes.spare ≡ c.args.scratch.now = c.scratch.view_is in
+    omega (arith, length_permutation _ _ c.walls.ensures.stands.order, c.requires.room, held)
+
+pub fill_walls-requires-clause-segments : goal.fill_walls-requires-clause-segments
+fill_walls-requires-clause-segments c = All-permutation IsSegment _ _ c.walls.ensures.stands.order c.walls.ensures.valid
+
+pub fill_walls-requires-clause-clear : goal.fill_walls-requires-clause-clear
+fill_walls-requires-clause-clear c = All-permutation (IsClear c.agent-agent.result.pos c.agent-agent.result.radius) _ _ c.walls.ensures.stands.order c.agent-agent.ensures.clear
+
 pub push_shares-requires-clause-room : goal.push_shares-requires-clause-room
 push_shares-requires-clause-room c =
     let held : length c.scratch.inside.planes.items + c.scratch.inside.planes.spare ≡ c.args.scratch.now = c.scratch.view_is in
-    let walls = length-wall_planes c.segments.result.now c.agent-agent.result in
-    omega (arith, ap length c.segments.ensures.value, c.requires.room, held, walls, ap length c.fill_walls.ensures.items, c.fill_walls.ensures.room)
+    let walls = length-wall_planes c.walls.result.now.segments.items c.agent-agent.result in
+    omega (arith, length_permutation _ _ c.walls.ensures.stands.order, c.requires.room, held, walls, ap length c.fill_walls.ensures.items, c.fill_walls.ensures.room)
 
 pub push_shares-requires-clause-present : goal.push_shares-requires-clause-present
 push_shares-requires-clause-present c = present_as _ _ _ _ c.agents.ensures c.bodies.ensures.value c.bodies.ensures.present
@@ -85,23 +100,24 @@ returns-clause-moves c =
     let agents = c.args.crowd.now.scenario.agents in
     let bodies = c.args.crowd.now.frame.bodies in
     let who = c.args.who in
-    let segments = c.args.crowd.now.scenario.segments in
+    let segments = c.walls.result.now.segments.items in
     let agent = c.agent-agent.result in
     let polygon = c.polygon.result.now in
     let walls = c.fill_walls.new.planes.items in
     let there = c.agent-agent.ensures.value in
     let seen : crowd_of c.agents.result.now c.bodies.result.now ≡ crowd = (λ i. crowd_of (c.agents.ensures i) (c.bodies.ensures.value i)) in
     let ring : polygon ≡ ring_planes agent.speed = c.polygon.ensures ∙ sym (ap (λ (agent : Agent). ring_planes agent.speed) there) in
-    let firm : polygon ++ walls ≡ hard_planes c.segments.result.now agent = ap (λ (first : List Plane). first ++ walls) ring ∙ ap (λ (rest : List Plane). ring_planes agent.speed ++ rest) c.fill_walls.ensures.items in
+    let firm : polygon ++ walls ≡ hard_planes segments agent = ap (λ (first : List Plane). first ++ walls) ring ∙ ap (λ (rest : List Plane). ring_planes agent.speed ++ rest) c.fill_walls.ensures.items in
     let all : polygon ++ c.items.result.now ≡ (polygon ++ walls) ++ map (λ (near : Near). share_against (crowd_of c.agents.result.now c.bodies.result.now) who near.agent) c.args.near.now =
     ap (λ (rest : List Plane). polygon ++ rest) (c.items.ensures ∙ c.push_shares.ensures.items) ∙ sym (append_assoc polygon walls _) in
-    let is = listed segments c.segments.result.now crowd (crowd_of c.agents.result.now c.bodies.result.now) who agent c.args.near.now (polygon ++ c.items.result.now) (polygon ++ walls) (polygon ++ walls)
-    c.segments.ensures.value seen there c.requires.near firm refl all in
+    let is = listed segments segments crowd (crowd_of c.agents.result.now c.bodies.result.now) who agent c.args.near.now (polygon ++ c.items.result.now) (polygon ++ walls) (polygon ++ walls)
+    refl seen there c.requires.near firm refl all in
     let count : length polygon + length c.items-walls.result.now ≡ length (polygon ++ walls) = ap (λ n. length polygon + n) (ap length c.items-walls.ensures) ∙ sym (length-append polygon walls) in
     if_some
     (λ a. AdvisedAmong (length polygon + length c.items-walls.result.now) (polygon ++ c.items.result.now) agent.pref a.vel a.mark a.relief)
-    (λ a. StandsStill segments crowd who a.vel a.mark a.relief ⊎ GivesWay segments crowd who a.vel a.mark a.relief)
-    (λ a h. moves_among segments crowd who (length (polygon ++ walls)) (polygon ++ c.items.result.now) is a.vel a.mark a.relief
+    (λ a. StandsStill c.args.crowd.now.scenario.segments crowd who a.vel a.mark a.relief ⊎ GivesWay c.args.crowd.now.scenario.segments crowd who a.vel a.mark a.relief)
+    (λ a h. moves_in_any_order c.args.crowd.now.scenario.segments segments crowd who a.vel a.mark a.relief c.walls.ensures.stands.order
+    (moves_among segments crowd who (length (polygon ++ walls)) (polygon ++ c.items.result.now) is a.vel a.mark a.relief
     (subst (λ (agent : Agent). AdvisedAmong (length (polygon ++ walls)) (polygon ++ c.items.result.now) agent.pref a.vel a.mark a.relief) there
-    (subst (λ n. AdvisedAmong n (polygon ++ c.items.result.now) agent.pref a.vel a.mark a.relief) count h)))
+    (subst (λ n. AdvisedAmong n (polygon ++ c.items.result.now) agent.pref a.vel a.mark a.relief) count h))))
     c.free_advice.result c.free_advice.ensures.advised

@@ -1,5 +1,9 @@
 use Rattle.std.proofs.Common.{◌≡◌, ◌∙◌, ◌+◌, List, All, ap, sym, subst, refl, arith, length}
 use Rattle.exact_algebra.proofs.Elements.{before_map}
+use Rattle.std.proofs.lemmas.List.Sorted.{All-permutation, length_permutation}
+use Rattle.crowd_data.specs.Limits.{IsSegment}
+use Rattle.crowd_data.specs.Walls.{IsClear}
+use Rattle.agent_step.proofs.AnyOrder.{moves_in_any_order}
 use Rattle.hard_plane.proofs.Examples.{length-ring_planes}
 use Rattle.crowd_data.specs.declared.agent.Agent.{Agent}
 use Rattle.crowd_data.specs.Advice.{agent_at, hard_planes, soft_planes}
@@ -20,13 +24,19 @@ pub fill-requires-clause-room : goal.fill-requires-clause-room
 fill-requires-clause-room c =
     let polygon : length c.polygon.result.now ≡ 36 = ap length c.polygon.ensures ∙ length-ring_planes _ in
     let held : length c.scratch.inside.planes.items + c.scratch.inside.planes.spare ≡ c.args.scratch.now = c.scratch.view_is in
-    omega (arith, ap length c.segments.ensures.value, c.requires.room, polygon, held)
+    omega (arith, length_permutation _ _ c.walls.ensures.stands.order, c.requires.room, polygon, held)
+
+pub fill-requires-clause-segments : goal.fill-requires-clause-segments
+fill-requires-clause-segments c = All-permutation IsSegment _ _ c.walls.ensures.stands.order c.walls.ensures.valid
+
+pub fill-requires-clause-clear : goal.fill-requires-clause-clear
+fill-requires-clause-clear c = All-permutation (IsClear c.agent-agent.result.pos c.agent-agent.result.radius) _ _ c.walls.ensures.stands.order c.agent-agent.ensures.clear
 
 pub push_shares-requires-clause-room : goal.push_shares-requires-clause-room
 push_shares-requires-clause-room c =
     let held : length c.scratch.inside.planes.items + c.scratch.inside.planes.spare ≡ c.args.scratch.now = c.scratch.view_is in
-    let hard = length-hard_planes c.segments.result.now c.agent-agent.result in
-    omega (arith, ap length c.segments.ensures.value, c.requires.room, held, hard, ap length c.fill.ensures.items, c.fill.ensures.room)
+    let hard = length-hard_planes c.walls.result.now.segments.items c.agent-agent.result in
+    omega (arith, length_permutation _ _ c.walls.ensures.stands.order, c.requires.room, held, hard, ap length c.fill.ensures.items, c.fill.ensures.room)
 
 pub push_shares-requires-clause-present : goal.push_shares-requires-clause-present
 push_shares-requires-clause-present c = present_as _ _ _ _ c.agents.ensures c.bodies.ensures.value c.bodies.ensures.present
@@ -48,10 +58,10 @@ advise_among-requires-clause-bounds c =
     let agents = c.args.crowd.now.scenario.agents in
     let bodies = c.args.crowd.now.frame.bodies in
     let who = c.args.who in
-    let segments = c.args.crowd.now.scenario.segments in
+    let segments = c.walls.result.now.segments.items in
     let seen : crowd_of c.agents.result.now c.bodies.result.now ≡ crowd = (λ i. crowd_of (c.agents.ensures i) (c.bodies.ensures.value i)) in
-    let is = listed segments c.segments.result.now crowd _ who c.agent-agent.result c.args.near.now c.items.result.now c.fill.new.planes.items c.items-hard.result.now
-    c.segments.ensures.value seen c.agent-agent.ensures.value c.requires.near c.fill.ensures.items c.items-hard.ensures (c.items.ensures ∙ c.push_shares.ensures.items) in
+    let is = listed segments segments crowd _ who c.agent-agent.result c.args.near.now c.items.result.now c.fill.new.planes.items c.items-hard.result.now
+    refl seen c.agent-agent.ensures.value c.requires.near c.fill.ensures.items c.items-hard.ensures (c.items.ensures ∙ c.push_shares.ensures.items) in
     shares_keep (length c.items-hard.result.now) c.items.result.now
     (subst (All (λ plane. Sized plane 200585)) (sym (soft_are segments crowd who (length c.items-hard.result.now) c.items.result.now is))
     (soft_sized agents bodies c.bodies.ensures.present who c.requires.who))
@@ -62,10 +72,10 @@ advise_among-requires-clause-enough c =
     let agents = c.args.crowd.now.scenario.agents in
     let bodies = c.args.crowd.now.frame.bodies in
     let who = c.args.who in
-    let segments = c.args.crowd.now.scenario.segments in
+    let segments = c.walls.result.now.segments.items in
     let seen : crowd_of c.agents.result.now c.bodies.result.now ≡ crowd = (λ i. crowd_of (c.agents.ensures i) (c.bodies.ensures.value i)) in
-    let is = listed segments c.segments.result.now crowd _ who c.agent-agent.result c.args.near.now c.items.result.now c.fill.new.planes.items c.items-hard.result.now
-    c.segments.ensures.value seen c.agent-agent.ensures.value c.requires.near c.fill.ensures.items c.items-hard.ensures (c.items.ensures ∙ c.push_shares.ensures.items) in
+    let is = listed segments segments crowd _ who c.agent-agent.result c.args.near.now c.items.result.now c.fill.new.planes.items c.items-hard.result.now
+    refl seen c.agent-agent.ensures.value c.requires.near c.fill.ensures.items c.items-hard.ensures (c.items.ensures ∙ c.push_shares.ensures.items) in
     λ met. subst IsMet (sym (relieved_are segments crowd who (length c.items-hard.result.now) c.items.result.now is 262143))
     (enough_relief (hard_planes segments (agent_at crowd who)) (soft_planes crowd who) _ (agent_at crowd who).speed
     (moves-at agents bodies c.bodies.ensures.present who c.requires.who).build.speed refl (soft_sized agents bodies c.bodies.ensures.present who c.requires.who)
@@ -81,10 +91,11 @@ returns-clause-moves c =
     let agents = c.args.crowd.now.scenario.agents in
     let bodies = c.args.crowd.now.frame.bodies in
     let who = c.args.who in
-    let segments = c.args.crowd.now.scenario.segments in
+    let segments = c.walls.result.now.segments.items in
     let seen : crowd_of c.agents.result.now c.bodies.result.now ≡ crowd = (λ i. crowd_of (c.agents.ensures i) (c.bodies.ensures.value i)) in
-    let is = listed segments c.segments.result.now crowd _ who c.agent-agent.result c.args.near.now c.items.result.now c.fill.new.planes.items c.items-hard.result.now
-    c.segments.ensures.value seen c.agent-agent.ensures.value c.requires.near c.fill.ensures.items c.items-hard.ensures (c.items.ensures ∙ c.push_shares.ensures.items) in
-    moves_among segments crowd who (length c.items-hard.result.now) c.items.result.now is _ _ _
+    let is = listed segments segments crowd _ who c.agent-agent.result c.args.near.now c.items.result.now c.fill.new.planes.items c.items-hard.result.now
+    refl seen c.agent-agent.ensures.value c.requires.near c.fill.ensures.items c.items-hard.ensures (c.items.ensures ∙ c.push_shares.ensures.items) in
+    moves_in_any_order c.args.crowd.now.scenario.segments segments crowd who _ _ _ c.walls.ensures.stands.order
+    (moves_among segments crowd who (length c.items-hard.result.now) c.items.result.now is _ _ _
     (subst (λ (agent : Agent). AdvisedAmong (length c.items-hard.result.now) c.items.result.now agent.pref c.advise_among.result.vel c.advise_among.result.mark c.advise_among.result.relief)
-    c.agent-agent.ensures.value c.advise_among.ensures.advised)
+    c.agent-agent.ensures.value c.advise_among.ensures.advised))
