@@ -5,3 +5,8 @@ mod Values
 mod RowsAdded
 mod Prefixes
 mod Accepted
+mod FrameLines
+mod FramesAdded
+mod TranscriptRead
+mod OnlyMemory
+pub mod TranscriptText

@@ -29,7 +29,7 @@ within_limits low high z p q = grind (arith, ints)
 number_in_is : (fields : Record) (k : ℕ) (low high z : ℤ) → number_of (field_text fields k) ≡ Some z → low ≤ℤ z → z ≤ℤ high → number_in fields k low high ≡ Ok z
 number_in_is fields k low high z e p q = rw (e, within_limits low high z p q) refl
 
-count_is : (fields : Record) (k least most n : ℕ) → field_text fields k ≡ decimal n → least ≤ n → n ≤ most → most < 10 ^ 18 → count_in fields k least most ≡ Ok n
+pub count_is : (fields : Record) (k least most n : ℕ) → field_text fields k ≡ decimal n → least ≤ n → n ≤ most → most < 10 ^ 18 → count_in fields k least most ≡ Ok n
 unfolding count_in
 count_is fields k least most n e p q small =
     rw (number_in_is fields k (pos least) (pos most) (pos n) (ap number_of e ∙ decimal_read n (omega arith)) (omega (arith, ints)) (omega (arith, ints))) refl
@@ -39,7 +39,7 @@ coordinate_is : (fields : Record) (k most : ℕ) (z : ℤ) → field_text fields
 coordinate_is fields k most z e p small =
     number_in_is fields k (neg_ℤ (pos most)) (pos most) z (ap number_of e ∙ signed_read z (omega arith)) (omega (arith, ints)) (omega (arith, ints))
 
-vector_is : (fields : Record) (k l most : ℕ) (v : V2) → field_text fields k ≡ signed_decimal v.x → field_text fields l ≡ signed_decimal v.y → IsWithin v most → most < 10 ^ 18
+pub vector_is : (fields : Record) (k l most : ℕ) (v : V2) → field_text fields k ≡ signed_decimal v.x → field_text fields l ≡ signed_decimal v.y → IsWithin v most → most < 10 ^ 18
     → vector_in fields k l most ≡ Ok v
 unfolding vector_in
 vector_is fields k l most v e f h small = rw (coordinate_is fields k most v.x e h.0 small, coordinate_is fields l most v.y f h.1 small) refl

@@ -1,10 +1,13 @@
-//! The text of every valid scenario reads back as that scenario, by the definitions of texts and of reading
-//! alone. The one function answers nothing; its contract is the law.
+//! The text of every valid scenario reads back as that scenario, and the text of every transcript as that
+//! transcript, by the definitions of texts and of reading alone. The functions answer nothing; their
+//! contracts are the laws.
 #![tactic(auto)]
 
 mod scenario;
+mod transcript;
 
 pub use scenario::reads_back;
+pub use transcript::transcript_reads_back;
 
 #[cfg(test)]
 mod tests;
