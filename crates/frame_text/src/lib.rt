@@ -1,12 +1,23 @@
-//! The texts of a scenario and of a transcript, line by line.
+//! The texts of a scenario and of a transcript, line by line, and transcripts read back from their texts.
 #![tactic(auto)]
 
+mod cause;
+mod frame_records;
+mod frames;
+mod limits;
 mod line;
 mod printed;
+mod shape;
+mod spelling;
 mod transcript;
+mod transcript_read;
 
+pub use cause::{TranscriptCause, TranscriptFault};
 pub use line::Line;
 pub use transcript::{write_end, write_frame, write_scenario};
+pub use transcript_read::{Transcript, read_transcript};
 
+#[cfg(test)]
+mod read_tests;
 #[cfg(test)]
 mod tests;

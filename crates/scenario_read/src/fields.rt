@@ -41,7 +41,7 @@ pub(crate) fn number(field: &[u8]) -> Option<i64>
 }
 
 /// The bytes of a field; of one that isn't there, none.
-pub(crate) fn field(row: &ByteRecord, k: usize) -> &[u8]
+pub fn field(row: &ByteRecord, k: usize) -> &[u8]
     ensures { result.now ≡ field_text (fields_of row.now) k }
 {
     match row.get(k) {
@@ -51,7 +51,7 @@ pub(crate) fn field(row: &ByteRecord, k: usize) -> &[u8]
 }
 
 /// Whether a record is of this kind.
-pub(crate) fn is_kind(row: &ByteRecord, kind: &[u8]) -> bool
+pub fn is_kind(row: &ByteRecord, kind: &[u8]) -> bool
     ensures { result ≡ is_kind (fields_of row.now) kind.now }
 {
     field(row, 0) == kind

@@ -23,9 +23,11 @@ mod steps_record;
 mod values;
 
 pub use cause::{Cause, ScenarioFault};
+pub use fields::{field, is_kind};
 pub use generator::generate;
 pub use part::Part;
 pub use read::{read_part, read_scenario};
+pub use values::{count_in, vector_in};
 
 #[cfg(test)]
 mod generator_tests;

@@ -11,7 +11,7 @@ use fixed_vec::V2;
 
 /// The number of a field, from `least` to `most`.
 #[tactic(auto, unfolding(crate::specs::Values::count_in))]
-pub(crate) fn count_in(row: &ByteRecord, k: u32, least: u32, most: u32) -> Result<u32, Cause>
+pub fn count_in(row: &ByteRecord, k: u32, least: u32, most: u32) -> Result<u32, Cause>
     ensures value { result ≡ count_in (fields_of row.now) k least most }
     ensures limits { IfOk result (λ n. (least ≤ n) × (n ≤ most)) }
 {
@@ -46,7 +46,7 @@ fn coordinate_in(row: &ByteRecord, k: u32, most: u32) -> Result<i64, Cause>
 
 /// The vector of two fields, whose coordinates are of at most this size.
 #[tactic(auto, unfolding(crate::specs::Values::vector_in))]
-pub(crate) fn vector_in(row: &ByteRecord, k: u32, l: u32, most: u32) -> Result<V2, Cause>
+pub fn vector_in(row: &ByteRecord, k: u32, l: u32, most: u32) -> Result<V2, Cause>
     ensures value { result ≡ vector_in (fields_of row.now) k l most }
     ensures limits { IfOk result (λ v. IsWithin v most) }
 {

@@ -1,0 +1,7 @@
+// The limits of the numbers of a frame, beside those of a scenario.
+
+/// The greatest size of a coordinate of a body's position, in units.
+pub(crate) const GREATEST_PLACE: u32 = 2_147_483_647;
+
+/// The greatest relief.
+pub(crate) const GREATEST_RELIEF: u32 = 262_143;
