@@ -10,7 +10,6 @@ use Rattle.post_box.specs.Ends.{AreOnceInOrder, IsBehind, PosterState, TakerStat
 pub Transfers-push : (old middle new : TakerState) (before list after : List Post) (post : Post) → Transfers old middle before list → IsBoxPost middle.controllers middle.agents post
     → new ≡ after_taking middle (post ∷ []) → after ≡ list ++ post ∷ [] → Transfers old new before after
 Transfers-push old middle new before list after post moves valid taker pushed =
-    let same : middle.posts ≡ old.posts ++ moves.posts = ap (λ (t : TakerState). t.posts) moves.taker in
     record {
       posts = moves.posts ++ post ∷ [];
       list = pushed ∙ (ap (λ l. l ++ post ∷ []) moves.list ∙ append_assoc before moves.posts (post ∷ []));

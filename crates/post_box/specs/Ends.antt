@@ -12,7 +12,8 @@ use Rattle.post_box.specs.History.{IsBoxPost, IsWaiting, posts_by}
 pub record BoxState : Type 0 where
   pub queue : SegId Global
 
--- a poster: the queue, its controller, how many agents there are, the most posts that it may post, and what it posted, in order
+-- a poster: the queue, its controller, how many agents there are, how many posts it may post at most, and
+-- what it posted, in order
 pub record PosterState : Type 0 where
   pub queue : SegId Global
   pub controller : ℕ
@@ -20,7 +21,8 @@ pub record PosterState : Type 0 where
   pub most : ℕ
   pub posts : List Post
 
--- the taker: the queue, how many controllers and agents there are, what it took, in order, and all posts of each poster that it took back
+-- the taker: the queue, how many controllers and agents there are, what it took, in order, and all posts
+-- of each poster that it took back
 pub record TakerState : Type 0 where
   pub queue : SegId Global
   pub controllers : ℕ
@@ -71,7 +73,8 @@ pub record Transfers (old new : TakerState) (before after : List Post) : Type 0 
   pub taker : new ≡ after_taking old posts
   pub each : All (IsBoxPost old.controllers old.agents) posts
 
--- these posts can wait in the queue behind what the taker took: together they are a history of the box, and it has all posts of each poster that was taken back
+-- these posts can wait in the queue behind what the taker took: together they are a history of the box,
+-- and it has all posts of each poster that was taken back
 abbrev pub IsBehind : TakerState → List Post → Type 0
 IsBehind taker waiting = IsWaiting taker.controllers taker.agents taker.posts taker.final_posts waiting
 

@@ -23,7 +23,8 @@ pub record IsHistory (controllers agents : ℕ) (history : List Post) : Type 0 w
   pub each : All (IsBoxPost controllers agents) history
   pub seqs : (controller : ℕ) → AreConsecutive (posts_by controller history)
 
--- these posts can wait behind those that were taken: together they are a history, and it has all posts of each controller in the list
+-- these posts can wait behind those that were taken: together they are a history, and it has all posts of
+-- each controller in the list
 pub record IsWaiting (controllers agents : ℕ) (taken : List Post) (final : List ControllerPosts) (waiting : List Post) : Type 0 where
   pub history : IsHistory controllers agents (taken ++ waiting)
   pub final_posts : All (λ (by : ControllerPosts). posts_by by.controller (taken ++ waiting) ≡ by.posts) final

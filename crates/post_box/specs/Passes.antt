@@ -17,7 +17,8 @@ PostPass = Seat (Option Post) (Going Post Known) Global
 abbrev pub queue_of : PostPass → SegId Global
 queue_of pass = record { web = pass.web; heap = pass.heap }
 
--- the pass of a poster of this controller, among so many agents, that has so many receipts of the most that it may have
+-- the pass of the poster of the controller of this number, where there are so many agents, which has sent
+-- so many posts of the most that it may
 pub record IsPosterPass (pass : PostPass) (number count_of_agents most sent : ℕ) : Type 0 where
   pub whole : IsSegPassOf (queue_of pass) pass
   pub role : pass.me.view.client.role ≡ Poster

@@ -8,8 +8,8 @@ use Rattle.post_box.specs.declared.view.Known.{Known}
 use Rattle.post_box.specs.declared.view.Role.TheVariants.{Poster, Taker}
 use Rattle.post_box.specs.History.{IsHistory, posts_by}
 
--- the history and what was taken of it, the taker's pass, the pass of each controller's poster (none where it was taken back), how many
--- controllers have had a poster, and how many agents there are
+-- the history and what was taken of it, the taker's pass, the pass of each controller's poster (none where
+-- it was taken back), how many controllers have had a poster, and how many agents there are
 pub record QueueState : Type 0 where
   pub history : List Post
   pub taken : List Post

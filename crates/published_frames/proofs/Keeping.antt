@@ -1,5 +1,5 @@
 -- Each step keeps the rule of the frames.
-use Rattle.std.proofs.Common.{◌≡◌, ◌≢◌, ℕ, ◌≤◌, eqb, eq-eqb, true, true≢false, List, [], ◌∷◌, ◌++◌, length, set, sym, refl, ap, ◌∙◌, subst, ⊎_elim, arith, length-append, fold}
+use Rattle.std.proofs.Common.{◌≡◌, ◌≢◌, ℕ, eqb, eq-eqb, true, true≢false, List, [], ◌∷◌, ◌++◌, length, set, sym, refl, ap, ◌∙◌, subst, ⊎_elim, arith, length-append, fold}
 use mathlib.Core.Option.{some, some-ne-none}
 use lib.ListN.{get_elem?}
 use Rattle.crossbeam_utils.specs.Register.{Admits, TurnsAt, Forks, Merges}
@@ -13,9 +13,9 @@ use Rattle.published_frames.specs.declared.shown.Publication.{Publication}
 use Rattle.published_frames.specs.declared.shown.ShownFrame.{ShownFrame}
 use Rattle.published_frames.specs.declared.view.FrameView.{FrameView}
 use Rattle.published_frames.specs.Applied.{applied_to}
-use Rattle.published_frames.specs.History.{CanFollow, Continues, IsHistory, IsReadable, StartsWith, frame_of, last_of, prefs_of, step_of}
+use Rattle.published_frames.specs.History.{CanFollow, IsHistory, IsReadable, StartsWith, frame_of, last_of, prefs_of, step_of}
 use Rattle.published_frames.specs.Log.{attempted_in, scenario_in}
-use Rattle.published_frames.specs.Rule.{Enters, IsKept, Matches, MatchesWhatItKnows, Publishes, ShowsLast, history_at, name_of, no_view, scenario_at, view_at}
+use Rattle.published_frames.specs.Rule.{Enters, IsKept, MatchesWhatItKnows, Publishes, ShowsLast, history_at, name_of, no_view, scenario_at, view_at}
 use Rattle.published_frames.specs.Taken.{posts_of}
 use Rattle.published_frames.proofs.Accounts.{starts_itself, starts_trans}
 use Rattle.published_frames.proofs.Histories.{continues_more, last_of-append, next_readable, prefs_of-last_of, start_readable}

@@ -1,5 +1,5 @@
 -- What clauses say of writers, readers, guards and notes.
-use Rattle.std.specs.Prelude.{ℕ, ◌≡◌, List, []}
+use Rattle.std.specs.Prelude.{ℕ, ◌≡◌, List}
 use Rattle.left_right.specs.Sides.{view}
 use Rattle.logbook.specs.Pages.{Book}
 use Rattle.crowd_data.specs.Run.{Snapshot, snapshot_of}

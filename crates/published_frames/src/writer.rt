@@ -2,6 +2,7 @@
 ghost use Rattle.std.specs.Prelude.{◌≡◌, ◌<◌, ℕ, [], drop, length, slice_index, true};
 ghost use Rattle.crowd_data.specs.Run.{start_of};
 ghost use Rattle.left_right.specs.Sides.{view};
+ghost use Rattle.published_frames.specs.declared.counts.TheConstants.{CONTROLLERS};
 ghost use Rattle.published_frames.specs.History.{last_of};
 ghost use Rattle.published_frames.specs.Log.{attempted_in, is_settled, length_word, published_in, scenario_in};
 ghost use Rattle.published_frames.specs.Rule.{name_of, view_of};

@@ -1,4 +1,4 @@
-use Rattle.std.proofs.Common.{◌∙◌, [], ap}
+use Rattle.std.proofs.Common.{◌∙◌, ap}
 use Rattle.crowd_data.specs.Run.{start_of}
 use Rattle.published_frames.specs.History.{last_of, step_of}
 use Rattle.published_frames.specs.Names.{writer_history, writer_source}

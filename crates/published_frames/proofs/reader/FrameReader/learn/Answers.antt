@@ -1,4 +1,3 @@
-use Rattle.std.proofs.Common.{rules}
 use Rattle.published_frames.proofs.Histories.{taken_of-later}
 use Rattle.published_frames.proofs.reader.FrameReader.learn.Goals as goal
 
