@@ -17,7 +17,7 @@ pub struct Agent {
     pub speed: u32,
     /// The neighbour distance in units, 0 to 65,536: only agents that are nearer can be neighbours.
     pub range: u32,
-    /// The most neighbours that it heeds, 0 to 64.
+    /// The most neighbours that it considers, 0 to 64.
     pub most: u32,
     /// The time horizon for other agents in steps, 1 to 4,096.
     pub horizon: u32,

@@ -56,7 +56,7 @@ pub struct Moves {
 }
 
 /// Frame 0: each agent with its position, velocity and preferred velocity, the mark Start and no relief.
-/// `NoMemory` is answered for want of memory alone.
+/// `NoMemory` is answered where memory runs out (documented, not proved).
 pub fn first_frame(alloc: Global, scenario: &Scenario) -> Result<Frame, NoMemory>
     ensures { IfOk result (λ frame. snapshot_of frame ≡ start_of scenario.now) }
 {

@@ -2,8 +2,9 @@
 //! of how the crowd moves.
 //!
 //! The definitions stand in `specs/`: `Limits` and `Scenario` say what is accepted, `RingPlanes`,
-//! `Walls`, `Pairs` and `Neighbours` what an agent has to heed, `Advice` what it does, `Run` how one
-//! frame follows from another, and `Safety` what keeping apart means.
+//! `Walls`, `Pairs` and `Neighbours` what an agent has to respect, `Advice` what it does, `Run` how one
+//! frame follows from another, `Present` what holds of every frame, and `Safety` and `SafeSteps` what a
+//! safe step is. `proofs/` has what is known of them: crowds, posts, frames, neighbours and shares.
 #![tactic(auto)]
 
 mod agent;

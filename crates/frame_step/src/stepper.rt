@@ -11,7 +11,7 @@ use crate::moves::move_range;
 use crate::places::place_all;
 use crate::posts::take_all;
 use agent_kdtree::Tree;
-use agent_step::{FrozenCrowd, Polygons, Scratch};
+use agent_step::{FrozenCrowd, Polygons, Scratch, WallBlocks};
 use crowd_data::{Body, Frame, Place, Post, Scenario, first_frame};
 use fixed_vec::{List, NoMemory};
 use outside_io::{Gate, OpenGate};
@@ -25,6 +25,7 @@ use std::mem::swap;
 pub struct Stepper {
     scenario: Scenario,
     polygons: Polygons,
+    walls: WallBlocks,
     frame: Frame,
     next: List<Body>,
     places: List<Place>,
@@ -37,7 +38,7 @@ impl Model for Stepper {
 
     ghost view = { λ s. record { scenario = s.scenario; frame = snapshot_of s.frame } };
 
-    ghost invariant = { λ s. IsReady s.scenario (snapshot_of s.frame) s.polygons s.next s.places s.tree s.scratch };
+    ghost invariant = { λ s. IsReady s.scenario (snapshot_of s.frame) s.polygons s.walls s.next s.places s.tree s.scratch };
 }
 
 impl Stepper {
@@ -53,6 +54,7 @@ impl Stepper {
         let _workers = workers;
         let agents = scenario.agents().len();
         let polygons = Polygons::open(alloc, scenario.agents())?;
+        let walls = WallBlocks::open(alloc, scenario.segments())?;
         let scratch = Scratch::open(alloc, scenario.segments().len())?;
         let next = List::with_room(alloc, agents)?;
         let frame = first_frame(alloc, &scenario)?;
@@ -62,6 +64,7 @@ impl Stepper {
         Ok(Stepper {
             scenario,
             polygons,
+            walls,
             frame,
             next,
             places,
@@ -126,6 +129,7 @@ impl Stepper {
             &self.scenario,
             &self.frame,
             &self.polygons,
+            &self.walls,
             self.places.items(),
             &self.tree,
         );

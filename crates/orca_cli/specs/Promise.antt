@@ -18,29 +18,22 @@ pub record ErrorOutput : Type 0 where
 pub record KeepsPromise (words : List (List ℕ)) (old new : Channels) (err later : ErrorOutput) (answer : ℕ) : Type 0 where
   -- the answer is the code of a status whose causes hold, and the error output has its line
   pub status : (s : Status) × (answer ≡ code_of s) × Holds words old new s × Reports err.held later.held err.faults later.faults s
-
   -- the transcript promise: with status 0 exactly the defined output was written, with status 5 a prefix of it
   pub transcript : answer ≡ 0 → (command : Command) → command_of words ≡ Some command → OnBytes (reads command) old.left (WroteOutput command old new)
   pub cut_short : answer ≡ 5 → (command : Command) → command_of words ≡ Some command → OnBytes (reads command) old.left (WrotePart command old new)
-
   -- the safety laws: every run of the command's scenario is safe, whatever is posted
   pub safe : (answer ≡ 0) ⊎ (answer ≡ 5) → (command : Command) → command_of words ≡ Some command → OnBytes (reads command) old.left (RunsAreSafe command)
-
   -- each other status leaves the output as it was
   pub unwritten : answer ≢ 0 → answer ≢ 5 → IsUnwritten old new
-
   -- status 2 comes exactly where the words are no command's, unless memory ran out; then nothing was read
   pub usage : answer ≡ 2 → command_of words ≡ None
   pub no_command : command_of words ≡ None → (answer ≡ 1) ⊎ (answer ≡ 2)
   pub untouched : answer ≡ 2 → IsUntouched old new
-
   -- commands that don't read a scenario never read the source
   pub unread : (command : Command) → command_of words ≡ Some command → reads command ≡ false → IsUntouched old new
-
   -- statuses 4 and 5 come only where a count of faults rose
   pub read_fault : answer ≡ 4 → Rose old.reads new.reads
   pub write_fault : answer ≡ 5 → Rose old.writes new.writes
-
   -- of a command that reads, status 6 comes exactly where more bytes came than an input may have, and 3
   -- exactly where they have a cause why they stand for no scenario; each yields to a status that is tried
   -- before it, and to lack of memory
@@ -48,10 +41,8 @@ pub record KeepsPromise (words : List (List ℕ)) (old new : Channels) (err late
   pub not_longer : AsksToRead words → IfSome old.left (λ bytes. input_limit < length bytes → (answer ≡ 1) ⊎ ((answer ≡ 4) ⊎ (answer ≡ 6)))
   pub refused : answer ≡ 3 → IfSome old.left IsRefused
   pub accepted : AsksToRead words → IfSome old.left (λ bytes. IsRefused bytes → (answer ≡ 1) ⊎ ((answer ≡ 4) ⊎ ((answer ≡ 6) ⊎ (answer ≡ 3))))
-
   -- with the statuses 0, 3 and 5 of a command that reads the source was read to its end
   pub read_whole : AsksToRead words → (answer ≡ 0) ⊎ ((answer ≡ 3) ⊎ (answer ≡ 5)) → IsAtEnd new.left
-
   -- a command where no count of faults rises is done, unless memory runs out or one of the exact causes holds
   pub complete : (command : Command) → command_of words ≡ Some command → ¬ Rose old.reads new.reads → ¬ Rose old.writes new.writes
       → (answer ≡ 0) ⊎ ((answer ≡ 1) ⊎ ((reads command ≡ true) × ((answer ≡ 3) ⊎ (answer ≡ 6))))

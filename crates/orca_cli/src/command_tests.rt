@@ -44,7 +44,8 @@ fn workers_change_no_byte(rt: HostRuntime) -> Result<(), Fail> {
 
 #[test]
 fn check_says_how_large_a_scenario_is(rt: HostRuntime) -> Result<(), Fail> {
-    let input: &[u8] = b"crowd,1\nsteps,7\nagent,0,0,0,0,0,0,500,400,15000,10,10,4\nsegment,-2000,500,2000,500\npost,1,0,100,0\npost,1,0,0,100\ngoal,3,0,9,9,5\n";
+    let input: &[u8] =
+        b"crowd,1\nsteps,7\nagent,0,0,0,0,0,0,500,400,15000,10,10,4\nsegment,-2000,500,2000,500\npost,1,0,100,0\npost,1,0,0,100\ngoal,3,0,9,9,5\n";
     let ended = ask(rt.alloc(), &["check"], input)?;
     assert_eq!(rt; ended.status, 0);
     assert_eq!(rt; ended.out.held(), b"accepted,1,1,2,1,7\n".as_slice());
@@ -72,9 +73,15 @@ fn soak_of_one_agent(rt: HostRuntime) -> Result<(), Fail> {
     let words = ["soak", "--number", "0", "--agents", "1", "--steps", "1"];
     let ended = ask(rt.alloc(), &words, b"nothing")?;
     assert_eq!(rt; ended.status, 0);
-    assert_eq!(rt; ended.out.held(), b"soak,1,1,1,0,0,0,0,-2228,-1702\n".as_slice());
+    assert_eq!(rt;
+        ended.out.held(),
+        b"soak,1,1,1,0,0,0,0,-2228,-1702\n".as_slice()
+    );
     let none = ["soak", "--number", "0", "--agents", "1", "--steps", "0"];
     let ended = ask(rt.alloc(), &none, b"nothing")?;
-    assert_eq!(rt; ended.out.held(), b"soak,0,1,0,0,0,0,0,-2426,-1881\n".as_slice());
+    assert_eq!(rt;
+        ended.out.held(),
+        b"soak,0,1,0,0,0,0,0,-2426,-1881\n".as_slice()
+    );
     Ok(())
 }

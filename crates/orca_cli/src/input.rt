@@ -38,7 +38,12 @@ fn scenario_of<S: Source>(alloc: Global, source: &mut S) -> Result<Scenario, Sta
 }
 
 // A generated scenario.
-fn generate_scenario(alloc: Global, number: u32, agents: u32, steps: u32) -> Result<Scenario, Status>
+fn generate_scenario(
+    alloc: Global,
+    number: u32,
+    agents: u32,
+    steps: u32,
+) -> Result<Scenario, Status>
     requires number { number ≤ 65535 }
     requires some_agents { 1 ≤ agents }
     requires agents { agents ≤ 10000 }

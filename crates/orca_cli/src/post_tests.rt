@@ -19,7 +19,8 @@ fn last_of_two_posts_wins(rt: HostRuntime) -> Result<(), Fail> {
 fn each_post_stands_in_its_frame(rt: HostRuntime) -> Result<(), Fail> {
     let input: &[u8] =
         b"crowd,1\nsteps,3\nagent,0,0,0,0,0,0,500,400,15000,10,10,4\npost,1,0,100,0\npost,3,0,0,-200\n";
-    let lines: &[u8] = b"frame,1\ntake,16,0,0,100,0\nbody,0,100,0,100,0,100,0,feasible,0\nframe,2\nbody,0,200,0,100,0,100,0,feasible,0\nframe,3\ntake,16,1,0,0,-200\nbody,0,200,-200,0,-200,0,-200,feasible,0\nend,3\n";
+    let lines: &[u8] =
+        b"frame,1\ntake,16,0,0,100,0\nbody,0,100,0,100,0,100,0,feasible,0\nframe,2\nbody,0,200,0,100,0,100,0,feasible,0\nframe,3\ntake,16,1,0,0,-200\nbody,0,200,-200,0,-200,0,-200,feasible,0\nend,3\n";
     assert_eq!(rt; ends_with(rt.alloc(), input, lines)?, true);
     Ok(())
 }
@@ -29,7 +30,11 @@ fn each_post_stands_in_its_frame(rt: HostRuntime) -> Result<(), Fail> {
 fn goals_are_carried(rt: HostRuntime) -> Result<(), Fail> {
     let input: &[u8] =
         b"crowd,1\nsteps,1\ngoal,0,0,1000,0,300\nagent,0,0,0,0,0,0,500,400,15000,10,10,4\n";
-    let ended = ask(rt.alloc(), &["run"], b"crowd,1\nsteps,1\nagent,0,0,0,0,0,0,500,400,15000,10,10,4\ngoal,0,0,1000,0,300\n")?;
+    let ended = ask(
+        rt.alloc(),
+        &["run"],
+        b"crowd,1\nsteps,1\nagent,0,0,0,0,0,0,500,400,15000,10,10,4\ngoal,0,0,1000,0,300\n",
+    )?;
     assert_eq!(rt; ended.status, 0);
     assert_eq!(rt;
         ended.out.held(),
@@ -37,6 +42,9 @@ fn goals_are_carried(rt: HostRuntime) -> Result<(), Fail> {
     );
     let early = ask(rt.alloc(), &["run"], input)?;
     assert_eq!(rt; early.status, 3);
-    assert_eq!(rt; early.err.held(), b"refused: record 2: NoSuchAgent\n".as_slice());
+    assert_eq!(rt;
+        early.err.held(),
+        b"refused: record 2: NoSuchAgent\n".as_slice()
+    );
     Ok(())
 }

@@ -19,7 +19,7 @@ use Rattle.pair_plane.proofs.Regions.{region_cases}
 use Rattle.pair_plane.proofs.Sized.{Sized, fits_sized}
 use Rattle.pair_plane.proofs.Sizes.{cutoff_small, offset_small, velocity_within}
 
--- the border of the disc of the joint radius is as far off as the offset and the radius together
+-- the border of the disc of the combined radius is as far off as the offset and the radius together
 held_le : (low high : Disc) (tau : ℕ) (n : V2) → IsPair low high tau → unsigned_abs (held_off low high n) ≤ 131072 * whole_length n
 held_le low high tau n h =
     by (whole_length n) (dot n (relative_position low high)) (low.radius + high.radius) (omega (arith, h.low_radius, h.high_radius)) (dot_le n (relative_position low high) 65536 (omega (arith, ints, h.near)))

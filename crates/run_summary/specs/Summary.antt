@@ -48,24 +48,24 @@ bodies_of frames = flat_map (λ (frame : Snapshot). frame.bodies) frames
 -- the tally of frames
 abbrev pub tally_of : List Snapshot → Tally
 tally_of frames = record {
-    frames = length frames;
-    feasible = count_of_mark Feasible (bodies_of frames);
-    fallback = count_of_mark Fallback (bodies_of frames);
-    stopped = count_of_mark Stopped (bodies_of frames);
-    crowded = count_of_mark Crowded (bodies_of frames);
-    relief = greatest_relief (bodies_of frames)
-  }
+  frames = length frames;
+  feasible = count_of_mark Feasible (bodies_of frames);
+  fallback = count_of_mark Fallback (bodies_of frames);
+  stopped = count_of_mark Stopped (bodies_of frames);
+  crowded = count_of_mark Crowded (bodies_of frames);
+  relief = greatest_relief (bodies_of frames);
+}
 
 -- a tally with one more frame
 abbrev pub with_frame : Tally → Snapshot → Tally
 with_frame tally frame = record {
-    frames = tally.frames + 1;
-    feasible = tally.feasible + count_of_mark Feasible frame.bodies;
-    fallback = tally.fallback + count_of_mark Fallback frame.bodies;
-    stopped = tally.stopped + count_of_mark Stopped frame.bodies;
-    crowded = tally.crowded + count_of_mark Crowded frame.bodies;
-    relief = max tally.relief (greatest_relief frame.bodies)
-  }
+  frames = tally.frames + 1;
+  feasible = tally.feasible + count_of_mark Feasible frame.bodies;
+  fallback = tally.fallback + count_of_mark Fallback frame.bodies;
+  stopped = tally.stopped + count_of_mark Stopped frame.bodies;
+  crowded = tally.crowded + count_of_mark Crowded frame.bodies;
+  relief = max tally.relief (greatest_relief frame.bodies);
+}
 
 -- soak,STEPS,AGENTS,FEASIBLE,FALLBACK,STOPPED,CROWDED,RELIEF,X,Y: the steps and the count of agents of a
 -- scenario, a tally of its frames, and the sums of the coordinates of all positions in its last frame

@@ -86,7 +86,7 @@ module _ (at : V2) (s : Segment) (R : ℤ) where
             shown (at.x ∷ at.y ∷ s.a.x ∷ s.a.y ∷ s.b.x ∷ s.b.y ∷ j ∷ i ∷ []) (product_nonneg (i -ℤ j) _ (gap_nonneg _ _ hi) (gap_nonneg _ _ past)) (search quotes depth 60 fits 80000) tt;
       }
 
--- ---- the three ways to heed a segment
+-- ---- the three ways to respect a segment
 
 whole_in : (plane : Plane) (v : V2) → IsIn plane (whole v) → plane.c ≤ℤ dot plane.n v
 whole_in plane v h = omega (arith, ints, h)

@@ -1,4 +1,4 @@
-// Two discs that heed the half-planes of their pair.
+// Two discs that respect the half-planes of their pair.
 ghost use Rattle.std.specs.Prelude.{pos};
 ghost use Rattle.fixed_vec.specs.Vector.{plus, times};
 ghost use Rattle.fixed_vec.specs.Point.{IsIn, whole};

@@ -1,4 +1,4 @@
-// Discs that heed a segment.
+// Discs that respect a segment.
 ghost use Rattle.std.specs.Prelude.{◌≤◌};
 ghost use Rattle.crowd_data.specs.Safety.{OffThroughout};
 ghost use Rattle.crowd_data.specs.Walls.{IsClear};
@@ -8,7 +8,7 @@ use crowd_data::{Agent, Segment};
 use fixed_vec::V2;
 
 /// A disc at this position that is clear of a segment, and whose new velocity respects it, stays off the
-/// segment for the agent's wall horizon, and so for the one step. A segment in reach is heeded by a
+/// segment for the agent's wall horizon, and so for the one step. A segment in reach is respected by a
 /// velocity in its wall plane, one out of reach by a velocity no longer than the agent's speed, and each by
 /// zero.
 pub fn off_segment(pos: V2, agent: &Agent, segment: &Segment, vel: V2)

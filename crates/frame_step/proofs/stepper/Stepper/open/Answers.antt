@@ -25,8 +25,9 @@ invariant_of-result c =
       valid = c.agents-agents.ensures.valid;
       present = rw (c.in_ok-frame.ensures) (start_present c.args.scenario c.agents-agents.ensures.valid);
       polygons = rw c.agents.ensures.value at c.in_ok-polygons.ensures;
+      walls = rw c.segments.ensures.value at c.in_ok-walls.ensures;
       bodies = omega (arith, count, c.in_ok-next.ensures.room);
       places = omega (arith, ap length c.agents-2.ensures.value, c.place_all.ensures.room);
       tree = subst (HasRoomFor c.in_ok-tree.tree) (length-placed c.args.scenario (snapshot_of c.in_ok-frame.frame) _ full are) c.in_ok-tree.ensures;
-      planes = omega (arith, ap length c.segments.ensures.value, c.in_ok-scratch.ensures);
+      planes = omega (arith, ap length c.segments-2.ensures.value, c.in_ok-scratch.ensures);
     }

@@ -42,6 +42,7 @@ invariant_of-self g c =
       valid = ready.valid;
       present = rw (c.swap.ensures.x_after) (made_present scenario frame c.args.posts.now _ ready.valid ready.present (rw (← c.self.view_is) at c.requires.posts) c.take_all.ensures.items (rw (← c.self.view_is) at c.requires.below) _ _ _ c.clear.ensures.items count c.move_range.ensures.moved);
       polygons = ready.polygons;
+      walls = ready.walls;
       bodies = rw (c.swap.ensures.y_after) (omega (arith, still.full));
       places = omega (arith, ap length c.agents-agents.ensures.value, c.place_all.ensures.room);
       tree = subst (HasRoomFor c.rebuild.new.self) (length-placed _ _ _ still.full are) c.rebuild.ensures.stands.room;
