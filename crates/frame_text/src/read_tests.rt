@@ -9,7 +9,7 @@ use std::test::Fail;
 const ONE_STEP: &[u8] =
     b"crowd,1\nsteps,1\nagent,0,0,0,0,300,0,500,400,15000,0,10,4\nframe,0\nbody,0,0,0,0,0,300,0,start,0\nframe,1\nbody,0,300,0,300,0,300,0,feasible,0\nend,1\n";
 
-// The transcript of a text. It tells its callers nothing, so that no proof computes on the text.
+// The transcript of a text. Its callers learn nothing of it, so that no proof computes on the text.
 fn read(alloc: Global, bytes: &[u8]) -> Result<Transcript, TranscriptFault>
     requires { length bytes.now < 2 ^ 32 }
 {

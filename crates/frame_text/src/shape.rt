@@ -41,7 +41,7 @@ fn add_next(
     index: u32,
     row: &ByteRecord,
 ) -> Result<(), ShapeFault>
-    ensures taken { IfOk result (λ _. (rest : Rows)
+    ensures added { IfOk result (λ _. (rest : Rows)
         → left_from scenario.now first (so_far frames.old) last.old index (fields_of row.now ∷ rest) ≡ left_from scenario.now first (so_far frames.new) last.new (index + 1) rest) }
     ensures refused { IfErr result (λ fault. (rest : Rows)
         → StopsBy fault (left_from scenario.now first (so_far frames.old) last.old index (fields_of row.now ∷ rest))) }
@@ -93,7 +93,7 @@ fn out_of_memory(error: &Error) -> ShapeFault
     ShapeFault::NoMemory
 }
 
-/// The frames of a transcript, whose first records, so many of them, are its scenario's. `At` tells the
+/// The frames of a transcript, whose first records, so many of them, are its scenario's. `At` names the
 /// first record that isn't allowed in its place, or the count of records where they end too soon.
 pub(crate) fn read_frames(
     alloc: Global,

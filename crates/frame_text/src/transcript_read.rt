@@ -49,7 +49,7 @@ impl From<ShapeFault> for TranscriptFault {
 }
 
 /// The transcript whose text the bytes are, fewer than 2^32 of them. Its scenario is that of the records
-/// before the first of kind `frame`. `At` tells the first cause why they are none, tried in this order:
+/// before the first of kind `frame`. `At` names the first cause why they are none, tried in this order:
 /// the scenario's, the shape of the frames, the spelling. Whether the frames are those of the scenario's
 /// run isn't asked. It takes memory linear in the bytes; `NoMemory` is answered only where memory runs out
 /// (documented, not proved).

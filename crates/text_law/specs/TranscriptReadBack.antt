@@ -9,7 +9,7 @@ use Rattle.frame_text.specs.Shaped.{IsShaped}
 use Rattle.frame_text.specs.Spelling.{text_of}
 use Rattle.frame_text.specs.Transcript.{transcript_text}
 
--- it is read as these parts, and it has no fault but want of memory
+-- it is read as these parts, and it has no fault but that memory ran out
 pub record TextReadsBack (s : Parts) (frames : List PostedFrame) : Type 0 where
   pub read : IsRead (text_of s frames) s frames
   pub no_cause : (fault : TranscriptFault) → HasTranscriptFault (text_of s frames) fault → fault ≡ NoMemory

@@ -21,7 +21,7 @@ fn law_of_the_smallest_scenario(rt: HostRuntime) -> Result<(), Fail> {
     Ok(())
 }
 
-// The helpers tell their callers nothing, so that no proof computes on the text.
+// The callers learn nothing of these helpers, so that no proof computes on the text.
 
 fn read_some(alloc: Global, input: &[u8]) -> Result<Scenario, ScenarioFault> {
     if input.len() < 1 << 32 {

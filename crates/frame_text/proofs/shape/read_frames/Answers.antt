@@ -46,7 +46,7 @@ loop-index-preserved c =
       z,
       at_z,
       omega arith,
-      sym (c.in_ok-add_next.ensures.taken _) ∙ ap (left_from c.args.scenario.now c.args.first (so_far c.loop-index.frames) c.loop-index.last c.loop-index.index) (sym more) ∙ same,
+      sym (c.in_ok-add_next.ensures.added _) ∙ ap (left_from c.args.scenario.now c.args.first (so_far c.loop-index.frames) c.loop-index.last c.loop-index.index) (sym more) ∙ same,
     )
 
 pub out_of_memory-requires : goal.out_of_memory-requires
