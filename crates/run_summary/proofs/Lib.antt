@@ -1,1 +1,1 @@
-mod BodySums
+pub mod SummaryLemmas

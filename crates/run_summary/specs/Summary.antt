@@ -1,5 +1,5 @@
 -- The summary of a run: one line that counts the marks of its bodies, and adds up where they end.
-use Rattle.std.specs.Prelude.{◌≡◌, ℕ, ◌+◌, max, Bool, true, false, List, [], ◌∷◌, ◌++◌, length, count_by, flat_map, codes, decimal}
+use Rattle.std.specs.Prelude.{◌≡◌, ℕ, ◌+◌, ◌*◌, ◌≤◌, max, Bool, true, false, List, [], ◌∷◌, ◌++◌, length, count_by, flat_map, codes, decimal}
 use Rattle.std.specs.Fmt.{signed_decimal}
 use Rattle.fixed_vec.specs.declared.vector.V2.{V2}
 use Rattle.fixed_vec.specs.Vector.{plus, zero_vector}
@@ -32,6 +32,13 @@ abbrev pub sum_of_positions : List Body → V2
 sum_of_positions [] = zero_vector
 sum_of_positions (body ∷ rest) = plus body.pos (sum_of_positions rest)
 
+-- the most frames of a run after frame 0, and the most bodies of a frame
+abbrev pub frame_limit : ℕ
+frame_limit = 100000
+
+abbrev pub body_limit : ℕ
+body_limit = 10000
+
 -- how many frames there are, how many of their bodies have each mark, and the greatest relief among these
 pub record Tally : Type 0 where
   pub frames : ℕ
@@ -40,6 +47,14 @@ pub record Tally : Type 0 where
   pub stopped : ℕ
   pub crowded : ℕ
   pub relief : ℕ
+
+-- no more frames than a run has, and no mark more often than these frames have bodies
+pub record IsWithinLimits (tally : Tally) : Type 0 where
+  pub frames : tally.frames ≤ frame_limit
+  pub feasible : tally.feasible ≤ body_limit * tally.frames
+  pub fallback : tally.fallback ≤ body_limit * tally.frames
+  pub stopped : tally.stopped ≤ body_limit * tally.frames
+  pub crowded : tally.crowded ≤ body_limit * tally.frames
 
 -- the bodies of all the frames
 abbrev pub bodies_of : List Snapshot → List Body

@@ -1,7 +1,7 @@
 // What a run's bodies add up to.
 ghost use Rattle.std.specs.Prelude.{◌≡◌, ◌≤◌, ◌<◌, [], ◌∷◌, ◌++◌, List, length};
 ghost use Rattle.crowd_data.specs.Run.{Snapshot, snapshot_of};
-ghost use Rattle.run_summary.specs.Summary.{tally_of, with_frame};
+ghost use Rattle.run_summary.specs.Summary.{body_limit, frame_limit, tally_of, with_frame};
 
 use crate::counts::{count_of, greatest_relief};
 use crowd_data::{Frame, Mark};
@@ -20,14 +20,13 @@ pub struct Summary {
 }
 
 impl Model for Summary {
-    ghost use Rattle.std.specs.Prelude.{◌≤◌, ◌*◌};
-    ghost use Rattle.run_summary.specs.Summary.{Tally};
+    ghost use Rattle.run_summary.specs.Summary.{IsWithinLimits, Tally};
 
     ghost Value = { Tally };
 
     ghost view = { λ s. record { frames = s.frames; feasible = s.feasible; fallback = s.fallback; stopped = s.stopped; crowded = s.crowded; relief = s.relief } };
 
-    ghost invariant = { λ s. (s.frames ≤ 100000) × (s.feasible ≤ 10000 * s.frames) × (s.fallback ≤ 10000 * s.frames) × (s.stopped ≤ 10000 * s.frames) × (s.crowded ≤ 10000 * s.frames) };
+    ghost invariant = { λ s. IsWithinLimits (record { frames = s.frames; feasible = s.feasible; fallback = s.fallback; stopped = s.stopped; crowded = s.crowded; relief = s.relief }) };
 }
 
 impl Summary {
@@ -47,8 +46,8 @@ impl Summary {
 
     /// Takes in one more frame, of at most 10,000 bodies, after fewer than 100,000. It takes no memory.
     pub fn add(&mut self, frame: &Frame)
-        requires frames { self.old.frames < 100000 }
-        requires bodies { length frame.now.bodies.items ≤ 10000 }
+        requires frames { self.old.frames < frame_limit }
+        requires bodies { length frame.now.bodies.items ≤ body_limit }
         ensures counted { self.new ≡ with_frame self.old (snapshot_of frame.now) }
         ensures tally { (frames : List Snapshot) → self.old ≡ tally_of frames → self.new ≡ tally_of (frames ++ snapshot_of frame.now ∷ []) }
     {

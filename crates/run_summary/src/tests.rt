@@ -1,0 +1,147 @@
+// Summaries of frames that are made by hand.
+ghost use Rattle.std.specs.Prelude.{◌≡◌, [], ◌∷◌, IfOk, ◌≤◌};
+
+use crate::{Summary, write_summary};
+use crowd_data::{Agent, Body, Frame, Mark, Scenario};
+use fixed_vec::{List, NoMemory, V2};
+use outside_io::MemSink;
+use std::alloc::Global;
+use std::test::Fail;
+
+const ORIGIN: V2 = V2 { x: 0, y: 0 };
+
+const STANDING: Agent = Agent {
+    pos: V2 { x: 3, y: -4 },
+    vel: ORIGIN,
+    pref: ORIGIN,
+    radius: 500,
+    speed: 400,
+    range: 15000,
+    most: 10,
+    horizon: 10,
+    wall_horizon: 4,
+};
+
+const BODY: Body = Body {
+    agent: 0,
+    pos: ORIGIN,
+    vel: ORIGIN,
+    pref: ORIGIN,
+    mark: Mark::Feasible,
+    relief: 0,
+};
+
+fn frame_of(
+    alloc: Global,
+    number: u32,
+    a: Body,
+    b: Body,
+    c: Body,
+    d: Body,
+    e: Body,
+) -> Result<Frame, NoMemory>
+    ensures { IfOk result (λ frame. frame.bodies.items ≡ a ∷ b ∷ c ∷ d ∷ e ∷ []) }
+{
+    let mut bodies = List::with_room(alloc, 5)?;
+    bodies.push(a);
+    bodies.push(b);
+    bodies.push(c);
+    bodies.push(d);
+    bodies.push(e);
+    Ok(Frame { number, bodies })
+}
+
+fn scenario_of(alloc: Global, steps: u32) -> Result<Scenario, NoMemory>
+    requires { steps ≤ 100000 }
+{
+    let mut agents = List::with_room(alloc, 1)?;
+    agents.push(STANDING);
+    Ok(Scenario::of(
+        steps,
+        agents,
+        List::with_room(alloc, 0)?,
+        List::with_room(alloc, 0)?,
+        List::with_room(alloc, 0)?,
+    ))
+}
+
+// Ten bodies in two frames, for a scenario of one agent: four feasible, three fallback, one stopped, two crowded.
+#[test]
+fn two_frames(rt: HostRuntime) -> Result<(), Fail> {
+    let first = frame_of(
+        rt.alloc(),
+        1,
+        BODY,
+        BODY,
+        Body {
+            mark: Mark::Fallback,
+            relief: 9,
+            ..BODY
+        },
+        Body {
+            mark: Mark::Crowded,
+            relief: 4,
+            ..BODY
+        },
+        Body {
+            mark: Mark::Crowded,
+            pos: V2 { x: 1, y: 1 },
+            ..BODY
+        },
+    )?;
+    let last = frame_of(
+        rt.alloc(),
+        2,
+        Body {
+            pos: V2 {
+                x: -5,
+                y: 2_000_000_000,
+            },
+            ..BODY
+        },
+        Body {
+            pos: V2 {
+                x: -7,
+                y: 2_000_000_000,
+            },
+            ..BODY
+        },
+        Body {
+            mark: Mark::Fallback,
+            relief: 2,
+            pos: V2 { x: 4, y: 30 },
+            ..BODY
+        },
+        Body {
+            mark: Mark::Fallback,
+            relief: 1,
+            pos: V2 { x: 0, y: -1 },
+            ..BODY
+        },
+        Body {
+            mark: Mark::Stopped,
+            ..BODY
+        },
+    )?;
+    let mut summary = Summary::empty();
+    summary.add(&first);
+    summary.add(&last);
+    let scenario = scenario_of(rt.alloc(), 2)?;
+    let mut out = MemSink::open(rt.alloc(), 100, List::with_room(rt.alloc(), 0)?)?;
+    write_summary(&mut out, &scenario, &summary, &last)?;
+    assert_eq!(rt;
+        out.held(),
+        b"soak,2,1,4,3,1,2,9,-8,4000000029\n".as_slice()
+    );
+    Ok(())
+}
+
+#[test]
+fn no_steps(rt: HostRuntime) -> Result<(), Fail> {
+    let scenario = scenario_of(rt.alloc(), 0)?;
+    let last = frame_of(rt.alloc(), 0, BODY, BODY, BODY, BODY, BODY)?;
+    let mut out = MemSink::open(rt.alloc(), 100, List::with_room(rt.alloc(), 0)?)?;
+    write_summary(&mut out, &scenario, &Summary::empty(), &last)?;
+    assert_eq!(rt; out.held(), b"soak,0,1,0,0,0,0,0,0,0\n".as_slice());
+    Ok(())
+}

@@ -1,7 +1,6 @@
-use Rattle.std.proofs.Common.{◌∙◌, ℕ, max, ap, sym}
-use Rattle.run_summary.proofs.BodySums.{greatest_relief_more, ord_max_is}
+use Rattle.run_summary.proofs.SummaryLemmas.{greatest_relief_more}
 use Rattle.run_summary.proofs.counts.greatest_relief.Goals as goal
 
 pub loop-body-preserved : goal.loop-body-preserved
 loop-body-preserved c =
-    c.max-greatest.ensures ∙ ord_max_is _ _ ∙ ap (λ (g : ℕ). max g _) c.loop-body.invariant ∙ sym (greatest_relief_more _ _ _ c.loop-body-test.true)
+    greatest_relief_more c.args.bodies.now c.loop-body.body-index c.loop-body-test.true _ _ c.max-greatest.ensures c.loop-body.invariant
