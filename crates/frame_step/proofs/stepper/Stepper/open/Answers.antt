@@ -10,8 +10,8 @@ place_all-requires-clause-full c =
     let full = ap (λ (s : Snapshot). length s.bodies) c.in_ok-frame.ensures ∙ length-starting_bodies 0 c.args.scenario.agents in
     ap length c.items.ensures ∙ full ∙ sym (ap length c.agents-2.ensures.value)
 
-pub open-requires-3 : goal.open-requires-3
-open-requires-3 c =
+pub open-requires-4 : goal.open-requires-4
+open-requires-4 c =
     let full = ap (λ (s : Snapshot). length s.bodies) c.in_ok-frame.ensures ∙ length-starting_bodies 0 c.args.scenario.agents in
     let are = c.items-2.ensures ∙ (rw (c.agents-2.ensures.value, c.items.ensures) at c.place_all.ensures.places) in
     omega (arith, length-placed c.args.scenario (snapshot_of c.in_ok-frame.frame) _ full are, c.agents-2.ensures.valid.agent_count)

@@ -1,6 +1,9 @@
 use Rattle.std.proofs.Common.{◌≡◌, ◌∙◌, ◌-◌, ap, arith, length, sym, subst}
-use Rattle.crowd_data.specs.Run.{snapshot_of}
+use Rattle.crowd_data.specs.Run.{Snapshot, snapshot_of}
+use Rattle.crowd_data.specs.Scenario.{Parts}
 use Rattle.agent_kdtree.specs.Stands.{HasRoomFor}
+use Rattle.agent_step.specs.Frozen.{FrozenState}
+use Rattle.frame_step.specs.Moved.{AppendsMoved}
 use Rattle.frame_step.proofs.Present.{all_placed, length-placed}
 use Rattle.frame_step.proofs.Stepping.{frozen_present, made_next, made_present, made_safe}
 use Rattle.frame_step.proofs.stepper.Stepper.step_gated.Goals as goal
@@ -16,14 +19,14 @@ rebuild-requires-clause-room g c =
     let ready = c.self.invariant in
     let still = frozen_present c.self.inside.scenario (snapshot_of c.self.inside.frame) c.args.posts.now _ ready.valid ready.present (rw (← c.self.view_is) at c.requires.posts) c.take_all.ensures.items in
     let are = c.items-2.ensures ∙ (rw (c.agents-agents.ensures.value, c.items.ensures) at c.place_all.ensures.places) in
-    subst (HasRoomFor c.self.inside.tree) (sym (length-placed _ _ _ still.full are)) ready.tree
+    subst (HasRoomFor c.self.inside.tree) (sym (length-placed c.self.inside.scenario (record { number = c.self.inside.frame.number; bodies = c.take_all.new.bodies.items }) _ still.full are)) ready.tree
 
 pub rebuild-requires-clause-placed : goal.rebuild-requires-clause-placed
 rebuild-requires-clause-placed g c =
     let ready = c.self.invariant in
     let still = frozen_present c.self.inside.scenario (snapshot_of c.self.inside.frame) c.args.posts.now _ ready.valid ready.present (rw (← c.self.view_is) at c.requires.posts) c.take_all.ensures.items in
     let are = c.items-2.ensures ∙ (rw (c.agents-agents.ensures.value, c.items.ensures) at c.place_all.ensures.places) in
-    all_placed _ _ _ ready.valid still are
+    all_placed c.self.inside.scenario (record { number = c.self.inside.frame.number; bodies = c.take_all.new.bodies.items }) _ ready.valid still are
 
 pub of-crowd-requires-clause-present : goal.of-crowd-requires-clause-present
 of-crowd-requires-clause-present g c =
@@ -37,15 +40,17 @@ invariant_of-self g c =
     let frame = snapshot_of c.self.inside.frame in
     let still = frozen_present scenario frame c.args.posts.now _ ready.valid ready.present (rw (← c.self.view_is) at c.requires.posts) c.take_all.ensures.items in
     let are = c.items-2.ensures ∙ (rw (c.agents-agents.ensures.value, c.items.ensures) at c.place_all.ensures.places) in
+    let now : Snapshot = record { number = c.self.inside.frame.number; bodies = c.take_all.new.bodies.items } in
+    let moved = subst (λ (s : Parts). AppendsMoved s now 0 (length c.agents-agents.result.now - 0) c.clear.new.self.items c.move_range.new.next.items) (ap (λ (s : FrozenState). s.scenario) c.of-crowd.ensures) c.move_range.ensures.moved in
     let count : length c.agents-agents.result.now - 0 ≡ length scenario.agents = omega (arith, ap length c.agents-agents.ensures.value) in
     record {
       valid = ready.valid;
-      present = rw (c.swap.ensures.x_after) (made_present scenario frame c.args.posts.now _ ready.valid ready.present (rw (← c.self.view_is) at c.requires.posts) c.take_all.ensures.items (rw (← c.self.view_is) at c.requires.below) _ _ _ c.clear.ensures.items count c.move_range.ensures.moved);
+      present = rw (c.swap.ensures.x_after) (made_present scenario frame c.args.posts.now _ ready.valid ready.present (rw (← c.self.view_is) at c.requires.posts) c.take_all.ensures.items (rw (← c.self.view_is) at c.requires.below) _ _ _ c.clear.ensures.items count moved);
       polygons = ready.polygons;
       walls = ready.walls;
       bodies = rw (c.swap.ensures.y_after) (omega (arith, still.full));
       places = omega (arith, ap length c.agents-agents.ensures.value, c.place_all.ensures.room);
-      tree = subst (HasRoomFor c.rebuild.new.self) (length-placed _ _ _ still.full are) c.rebuild.ensures.stands.room;
+      tree = subst (HasRoomFor c.rebuild.new.self) (length-placed scenario now _ still.full are) c.rebuild.ensures.stands.room;
       planes = rw (c.move_range.ensures.planes) ready.planes;
     }
 
@@ -54,14 +59,18 @@ returns-clause-next g c =
     let ready = c.self.invariant in
     let scenario = c.self.inside.scenario in
     let frame = snapshot_of c.self.inside.frame in
+    let now : Snapshot = record { number = c.self.inside.frame.number; bodies = c.take_all.new.bodies.items } in
+    let moved = subst (λ (s : Parts). AppendsMoved s now 0 (length c.agents-agents.result.now - 0) c.clear.new.self.items c.move_range.new.next.items) (ap (λ (s : FrozenState). s.scenario) c.of-crowd.ensures) c.move_range.ensures.moved in
     let count : length c.agents-agents.result.now - 0 ≡ length scenario.agents = omega (arith, ap length c.agents-agents.ensures.value) in
-    rw (← c.self.view_is, c.swap.ensures.x_after) (made_next scenario frame c.args.posts.now _ ready.valid ready.present (rw (← c.self.view_is) at c.requires.posts) c.take_all.ensures.items (rw (← c.self.view_is) at c.requires.below) _ _ _ c.clear.ensures.items count c.move_range.ensures.moved)
+    rw (← c.self.view_is, c.swap.ensures.x_after) (made_next scenario frame c.args.posts.now _ ready.valid ready.present (rw (← c.self.view_is) at c.requires.posts) c.take_all.ensures.items (rw (← c.self.view_is) at c.requires.below) _ _ _ c.clear.ensures.items count moved)
 
 pub returns-clause-safe : goal.returns-clause-safe
 returns-clause-safe g c =
     let ready = c.self.invariant in
     let scenario = c.self.inside.scenario in
     let frame = snapshot_of c.self.inside.frame in
+    let now : Snapshot = record { number = c.self.inside.frame.number; bodies = c.take_all.new.bodies.items } in
+    let moved = subst (λ (s : Parts). AppendsMoved s now 0 (length c.agents-agents.result.now - 0) c.clear.new.self.items c.move_range.new.next.items) (ap (λ (s : FrozenState). s.scenario) c.of-crowd.ensures) c.move_range.ensures.moved in
     let count : length c.agents-agents.result.now - 0 ≡ length scenario.agents = omega (arith, ap length c.agents-agents.ensures.value) in
     rw (← c.self.view_is, c.swap.ensures.x_after)
-    (made_safe scenario frame c.args.posts.now _ ready.valid ready.present (rw (← c.self.view_is) at c.requires.posts) c.take_all.ensures.items (rw (← c.self.view_is) at c.requires.below) _ _ _ c.clear.ensures.items count c.move_range.ensures.moved c.every_step_is_safe.ensures)
+    (made_safe scenario frame c.args.posts.now _ ready.valid ready.present (rw (← c.self.view_is) at c.requires.posts) c.take_all.ensures.items (rw (← c.self.view_is) at c.requires.below) _ _ _ c.clear.ensures.items count moved c.every_step_is_safe.ensures)
