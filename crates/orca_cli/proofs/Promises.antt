@@ -1,6 +1,6 @@
 -- What the causes of a status say of the promise of the top calls.
 use Rattle.std.proofs.Common.{◌≡◌, ◌≢◌, ◌∙◌, ◌⊎◌, inl, inr, ⊎_elim, ◌<◌, ◌≤◌, ℕ, Bool, true, false, List, [], length, Option, Some, None, IfSome, refl, sym, subst, arith, true≢false}
-use Rattle.std.specs.Io.KnownBytes.{Appends, IsAtEnd}
+use Rattle.std.specs.Io.KnownBytes.{IsAtEnd}
 use Rattle.outside_io.specs.Causes.{Rose}
 use Rattle.command_words.specs.Commands.{command_of}
 use Rattle.command_words.specs.declared.commands.Command.{Command}
@@ -42,7 +42,7 @@ module _ (words : List (List ℕ)) (old new : Channels) where
 
   -- the words ask for one command
   one : (c d : Command) → Asks c → Asks d → c ≡ d
-  one c d one two = cc
+  one c d first second = cc
 
   none : (c : Command) → Asks c → command_of words ≡ None → ⊥
   none c asks nothing = cc
@@ -51,13 +51,23 @@ module _ (words : List (List ℕ)) (old new : Channels) where
   transcript Done (d, asks, input) e c also =
       subst (λ x. OnBytes (reads x) old.left (WroteOutput x old new)) (one d c asks also)
       (on_bytes old new (reads d) (λ bytes. WroteOutput d old new bytes × RunsAreSafe d bytes) (WroteOutput d old new) (λ bytes (wrote, safe). wrote) input)
-  transcript _ h e = absurd (omega arith)
+  transcript NoMemory h e c also = absurd (omega arith)
+  transcript Usage h e c also = absurd (omega arith)
+  transcript (Refused index cause) h e c also = absurd (omega arith)
+  transcript ReadFault h e c also = absurd (omega arith)
+  transcript WriteFault h e c also = absurd (omega arith)
+  transcript TooLong h e c also = absurd (omega arith)
 
   cut_short : (s : Status) → Holds words old new s → code_of s ≡ 5 → (c : Command) → Asks c → OnBytes (reads c) old.left (WrotePart c old new)
   cut_short WriteFault (d, asks, input, rose) e c also =
       subst (λ x. OnBytes (reads x) old.left (WrotePart x old new)) (one d c asks also)
       (on_bytes old new (reads d) (λ bytes. WrotePart d old new bytes × RunsAreSafe d bytes) (WrotePart d old new) (λ bytes (wrote, safe). wrote) input)
-  cut_short _ h e = absurd (omega arith)
+  cut_short Done h e c also = absurd (omega arith)
+  cut_short NoMemory h e c also = absurd (omega arith)
+  cut_short Usage h e c also = absurd (omega arith)
+  cut_short (Refused index cause) h e c also = absurd (omega arith)
+  cut_short ReadFault h e c also = absurd (omega arith)
+  cut_short TooLong h e c also = absurd (omega arith)
 
   safe : (s : Status) → Holds words old new s → (code_of s ≡ 0) ⊎ (code_of s ≡ 5) → (c : Command) → Asks c → OnBytes (reads c) old.left (RunsAreSafe c)
   safe Done (d, asks, input) e c also =
@@ -66,7 +76,11 @@ module _ (words : List (List ℕ)) (old new : Channels) where
   safe WriteFault (d, asks, input, rose) e c also =
       subst (λ x. OnBytes (reads x) old.left (RunsAreSafe x)) (one d c asks also)
       (on_bytes old new (reads d) (λ bytes. WrotePart d old new bytes × RunsAreSafe d bytes) (RunsAreSafe d) (λ bytes (wrote, safe). safe) input)
-  safe _ h e = ⊎_elim (λ zero. absurd (omega arith)) (λ five. absurd (omega arith)) e
+  safe NoMemory h e c also = ⊎_elim (λ zero. absurd (omega arith)) (λ five. absurd (omega arith)) e
+  safe Usage h e c also = ⊎_elim (λ zero. absurd (omega arith)) (λ five. absurd (omega arith)) e
+  safe (Refused index cause) h e c also = ⊎_elim (λ zero. absurd (omega arith)) (λ five. absurd (omega arith)) e
+  safe ReadFault h e c also = ⊎_elim (λ zero. absurd (omega arith)) (λ five. absurd (omega arith)) e
+  safe TooLong h e c also = ⊎_elim (λ zero. absurd (omega arith)) (λ five. absurd (omega arith)) e
 
   unwritten : (s : Status) → Holds words old new s → code_of s ≢ 0 → code_of s ≢ 5 → IsUnwritten old new
   unwritten Done h ne5 ne = absurd (ne5 refl)
@@ -79,7 +93,12 @@ module _ (words : List (List ℕ)) (old new : Channels) where
 
   usage : (s : Status) → Holds words old new s → code_of s ≡ 2 → command_of words ≡ None
   usage Usage (nothing, same, kept) e = nothing
-  usage _ h e = absurd (omega arith)
+  usage Done h e = absurd (omega arith)
+  usage NoMemory h e = absurd (omega arith)
+  usage (Refused index cause) h e = absurd (omega arith)
+  usage ReadFault h e = absurd (omega arith)
+  usage WriteFault h e = absurd (omega arith)
+  usage TooLong h e = absurd (omega arith)
 
   no_command : (s : Status) → Holds words old new s → command_of words ≡ None → (code_of s ≡ 1) ⊎ (code_of s ≡ 2)
   no_command Usage h nothing = inr refl
@@ -92,7 +111,12 @@ module _ (words : List (List ℕ)) (old new : Channels) where
 
   untouched : (s : Status) → Holds words old new s → code_of s ≡ 2 → IsUntouched old new
   untouched Usage (nothing, same, kept) e = same
-  untouched _ h e = absurd (omega arith)
+  untouched Done h e = absurd (omega arith)
+  untouched NoMemory h e = absurd (omega arith)
+  untouched (Refused index cause) h e = absurd (omega arith)
+  untouched ReadFault h e = absurd (omega arith)
+  untouched WriteFault h e = absurd (omega arith)
+  untouched TooLong h e = absurd (omega arith)
 
   -- a command that reads isn't one that doesn't
   never_both : (c d : Command) → Asks c → Asks d → reads c ≡ true → reads d ≡ false → ⊥
@@ -109,20 +133,40 @@ module _ (words : List (List ℕ)) (old new : Channels) where
 
   read_fault : (s : Status) → Holds words old new s → code_of s ≡ 4 → Rose old.reads new.reads
   read_fault ReadFault (asks, rose, most, kept) e = rose
-  read_fault _ h e = absurd (omega arith)
+  read_fault Done h e = absurd (omega arith)
+  read_fault NoMemory h e = absurd (omega arith)
+  read_fault Usage h e = absurd (omega arith)
+  read_fault (Refused index cause) h e = absurd (omega arith)
+  read_fault WriteFault h e = absurd (omega arith)
+  read_fault TooLong h e = absurd (omega arith)
 
   write_fault : (s : Status) → Holds words old new s → code_of s ≡ 5 → Rose old.writes new.writes
   write_fault WriteFault (d, asks, input, rose) e = rose
-  write_fault _ h e = absurd (omega arith)
+  write_fault Done h e = absurd (omega arith)
+  write_fault NoMemory h e = absurd (omega arith)
+  write_fault Usage h e = absurd (omega arith)
+  write_fault (Refused index cause) h e = absurd (omega arith)
+  write_fault ReadFault h e = absurd (omega arith)
+  write_fault TooLong h e = absurd (omega arith)
 
   too_long : (s : Status) → Holds words old new s → code_of s ≡ 6 → IfSome old.left (λ bytes. input_limit < length bytes)
   too_long TooLong (asks, long, takes, kept) e = long
-  too_long _ h e = absurd (omega arith)
+  too_long Done h e = absurd (omega arith)
+  too_long NoMemory h e = absurd (omega arith)
+  too_long Usage h e = absurd (omega arith)
+  too_long (Refused index cause) h e = absurd (omega arith)
+  too_long ReadFault h e = absurd (omega arith)
+  too_long WriteFault h e = absurd (omega arith)
 
   refused : (s : Status) → Holds words old new s → code_of s ≡ 3 → IfSome old.left IsRefused
   refused (Refused index cause) (asks, inside, end, kept) e =
       if_more old.left (λ bytes. (length bytes ≤ input_limit) × IsRefusedBy bytes index cause) IsRefused (λ bytes (short, told). (index, cause, told)) inside
-  refused _ h e = absurd (omega arith)
+  refused Done h e = absurd (omega arith)
+  refused NoMemory h e = absurd (omega arith)
+  refused Usage h e = absurd (omega arith)
+  refused ReadFault h e = absurd (omega arith)
+  refused WriteFault h e = absurd (omega arith)
+  refused TooLong h e = absurd (omega arith)
 
   -- of a command that reads, all bytes were read, were short enough and had no cause
   all_read : (d : Command) (P : List ℕ → Type 0) → Asks d → AsksToRead words → ReadInput (reads d) old new P → IfSome old.left (λ bytes. (length bytes ≤ input_limit) × (¬ IsRefused bytes)) × IsAtEnd new.left
@@ -150,22 +194,25 @@ module _ (words : List (List ℕ)) (old new : Channels) where
 
   without_cause : (d : Command) (P : List ℕ → Type 0) (code : ℕ) → Asks d → AsksToRead words → ReadInput (reads d) old new P → IfSome old.left (Accepted code)
   without_cause d P code asks reading input =
-      if_more old.left (λ bytes. (length bytes ≤ input_limit) × (¬ IsRefused bytes)) (Accepted code) (λ bytes (short, fine) refused. absurd (fine refused)) (all_read d P asks reading input).0
+      if_more old.left (λ bytes. (length bytes ≤ input_limit) × (¬ IsRefused bytes)) (Accepted code) (λ bytes (short, fine) told. absurd (fine told)) (all_read d P asks reading input).0
 
   accepted : (s : Status) → Holds words old new s → AsksToRead words → IfSome old.left (Accepted (code_of s))
   accepted Done (d, asks, input) reading = without_cause d (λ bytes. WroteOutput d old new bytes × RunsAreSafe d bytes) 0 asks reading input
   accepted WriteFault (d, asks, input, rose) reading = without_cause d (λ bytes. WrotePart d old new bytes × RunsAreSafe d bytes) 5 asks reading input
   accepted Usage (nothing, same, kept) (c, asks, reading) = absurd (none c asks nothing)
-  accepted NoMemory h reading = if_any old.left (Accepted 1) (λ bytes refused. inl refl)
-  accepted ReadFault h reading = if_any old.left (Accepted 4) (λ bytes refused. inr (inl refl))
-  accepted TooLong h reading = if_any old.left (Accepted 6) (λ bytes refused. inr (inr (inl refl)))
-  accepted (Refused index cause) h reading = if_any old.left (Accepted 3) (λ bytes refused. inr (inr (inr refl)))
+  accepted NoMemory h reading = if_any old.left (Accepted 1) (λ bytes told. inl refl)
+  accepted ReadFault h reading = if_any old.left (Accepted 4) (λ bytes told. inr (inl refl))
+  accepted TooLong h reading = if_any old.left (Accepted 6) (λ bytes told. inr (inr (inl refl)))
+  accepted (Refused index cause) h reading = if_any old.left (Accepted 3) (λ bytes told. inr (inr (inr refl)))
 
   read_whole : (s : Status) → Holds words old new s → AsksToRead words → (code_of s ≡ 0) ⊎ ((code_of s ≡ 3) ⊎ (code_of s ≡ 5)) → IsAtEnd new.left
   read_whole Done (d, asks, input) reading e = (all_read d (λ bytes. WroteOutput d old new bytes × RunsAreSafe d bytes) asks reading input).1
   read_whole WriteFault (d, asks, input, rose) reading e = (all_read d (λ bytes. WrotePart d old new bytes × RunsAreSafe d bytes) asks reading input).1
   read_whole (Refused index cause) (asks, inside, end, kept) reading e = end
-  read_whole _ h reading e = ⊎_elim (λ zero. absurd (omega arith)) (λ more. ⊎_elim (λ three. absurd (omega arith)) (λ five. absurd (omega arith)) more) e
+  read_whole NoMemory h reading e = ⊎_elim (λ zero. absurd (omega arith)) (λ more. ⊎_elim (λ three. absurd (omega arith)) (λ five. absurd (omega arith)) more) e
+  read_whole Usage h reading e = ⊎_elim (λ zero. absurd (omega arith)) (λ more. ⊎_elim (λ three. absurd (omega arith)) (λ five. absurd (omega arith)) more) e
+  read_whole ReadFault h reading e = ⊎_elim (λ zero. absurd (omega arith)) (λ more. ⊎_elim (λ three. absurd (omega arith)) (λ five. absurd (omega arith)) more) e
+  read_whole TooLong h reading e = ⊎_elim (λ zero. absurd (omega arith)) (λ more. ⊎_elim (λ three. absurd (omega arith)) (λ five. absurd (omega arith)) more) e
 
   complete : (s : Status) → Holds words old new s → (c : Command) → Asks c → ¬ Rose old.reads new.reads → ¬ Rose old.writes new.writes
       → (code_of s ≡ 0) ⊎ ((code_of s ≡ 1) ⊎ ((reads c ≡ true) × ((code_of s ≡ 3) ⊎ (code_of s ≡ 6))))

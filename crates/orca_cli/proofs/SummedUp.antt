@@ -1,9 +1,9 @@
 -- The frames behind a frame, summed up one after another.
-use Rattle.std.proofs.Common.{◌≡◌, ◌∙◌, ◌≤◌, ◌+◌, ◌-◌, ◌++◌, List, [], ◌∷◌, ℕ, suc, refl, sym, ap, subst, arith, append_assoc, append-nil}
+use Rattle.std.proofs.Common.{◌≡◌, ◌≤◌, ◌+◌, ◌-◌, ◌++◌, List, [], ◌∷◌, suc, refl, sym, ap, subst, arith, append_assoc, append-nil}
 use Rattle.crowd_data.specs.declared.post.Post.{Post}
-use Rattle.crowd_data.specs.Run.{Follow, IsNext, Snapshot, script_of, scripts_from, scripts_of, start_of}
+use Rattle.crowd_data.specs.Run.{Follow, IsNext, Snapshot, script_of, scripts_from, start_of}
 use Rattle.crowd_data.specs.Scenario.{Parts}
-use Rattle.run_summary.specs.Summary.{IsSummary, Tally, last_of, line_of, summary_line, tally_of}
+use Rattle.run_summary.specs.Summary.{IsSummary, Tally, last_of, line_of, tally_of}
 use Rattle.orca_cli.specs.Behind.{SumsUp, scripts_behind}
 
 -- the last of frames to which one is added

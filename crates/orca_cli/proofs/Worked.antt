@@ -1,8 +1,8 @@
 -- What the parts of a command answer makes the causes of its status.
-use Rattle.std.proofs.Common.{◌≡◌, ◌∙◌, inl, inr, ◌<◌, ◌≤◌, ℕ, Bool, true, false, List, [], length, Option, Some, None, IfSome, refl, sym, subst, arith, true≢false}
+use Rattle.std.proofs.Common.{◌≡◌, ◌∙◌, inl, inr, ◌≤◌, ℕ, Bool, true, false, List, [], length, Option, Some, None, IfSome, refl, sym, subst, arith, true≢false}
 use Rattle.std.specs.List.{All, slice_get}
-use Rattle.std.specs.Io.KnownBytes.{Appends, Consumes, IsAtEnd, Keeps}
-use Rattle.std.proofs.KnownBytes.{Consumes-kept, Consumes-nil, Consumes-whole}
+use Rattle.std.specs.Io.KnownBytes.{Keeps}
+use Rattle.std.proofs.KnownBytes.{Consumes-kept, Consumes-nil}
 use Rattle.std.proofs.lemmas.Option.{get_or_from_slice_get, slice_get_within}
 use Rattle.outside_io.specs.Causes.{TakesAtMost}
 use Rattle.command_words.specs.Commands.{command_of}
@@ -15,9 +15,9 @@ use Rattle.run_law.specs.Laws.{EveryRunIsSafe}
 use Rattle.scenario_read.specs.declared.cause.Cause.{Cause}
 use Rattle.scenario_read.specs.Reading.{AllClear, IsAccepted, IsRefusedFor}
 use Rattle.scenario_read.specs.Records.{Record, records_of}
-use Rattle.orca_cli.specs.Output.{IsFor, IsRefused, IsRefusedBy, IsScenarioOf, IsTextFor, RunsAreSafe, reads}
+use Rattle.orca_cli.specs.Output.{IsFor, IsRefused, IsScenarioOf, IsTextFor, RunsAreSafe, reads}
 use Rattle.orca_cli.specs.Status.{Channels, Holds, IsUntouched, IsUnwritten, ReadInput, WroteOutput, WrotePart, input_limit}
-use Rattle.orca_cli.specs.Working.{HasNone, HasScenario, Input, IsInputFault, IsSame, Output, WroteOne}
+use Rattle.orca_cli.specs.Working.{HasNone, HasScenario, Input, IsInputFault, WroteOne}
 use Rattle.orca_cli.specs.declared.status.Status.{Status}
 use Rattle.orca_cli.specs.declared.status.Status.TheVariants.{Done, NoMemory, Usage, Refused, ReadFault, WriteFault, TooLong}
 

@@ -1,11 +1,14 @@
 -- What is written of a run: the frames one after another, or a prefix of the whole where a write failed.
-use Rattle.std.proofs.Common.{◌≡◌, ◌≤◌, ◌++◌, List, [], ℕ, Result, sym, subst, append_assoc}
+use Rattle.std.proofs.Common.{◌≡◌, ◌≤◌, ◌^◌, ◌++◌, List, [], ℕ, Result, sym, subst, append_assoc, arith}
+use Rattle.std.specs.List.{All}
 use Rattle.std.specs.declared.option.Option.{Option}
 use Rattle.std.specs.Io.KnownBytes.{Appends}
 use Rattle.std.proofs.KnownBytes.{Appends-nil, Appends-trans}
 use Rattle.outside_io.specs.Causes.{AppendsPrefix, Wrote}
 use Rattle.outside_io.proofs.WroteLemmas.{prefix_longer, prefix_then, wrote_then}
+use Rattle.fixed_vec.specs.Vector.{IsBelow}
 use Rattle.crowd_data.specs.declared.post.Post.{Post}
+use Rattle.crowd_data.specs.Limits.{IsPost}
 use Rattle.crowd_data.specs.Run.{IsNext, Snapshot, scripts_of, start_of}
 use Rattle.crowd_data.specs.Scenario.{IsValid, Parts}
 use Rattle.crowd_data.proofs.Frames.{length-starting_bodies}
@@ -22,6 +25,10 @@ IsPart scenario first present a b =
 -- nothing was written yet
 pub part_none : (scenario : Parts) (first : Snapshot) (a : Option (List ℕ)) → IsPart scenario first first a a
 part_none scenario first a = ([], (λ text behind. behind), Appends-nil a)
+
+-- the text has room for the velocities of posts
+pub posts_fit : (agents : ℕ) (posts : List Post) → All (IsPost agents) posts → All (λ (post : Post). IsBelow post.vel (2 ^ 31)) posts
+posts_fit agents posts all k d h = let limits = (all k d h).vel in (omega (arith, limits.0), omega (arith, limits.1))
 
 -- ---- the frames behind a frame
 

@@ -1,11 +1,11 @@
 -- What the parts of a command answer: the scenario that it is about, and the status of its writing.
-use Rattle.std.specs.Prelude.{◌≡◌, ℕ, ◌+◌, ◌<◌, ◌≤◌, Bool, true, false, List, length, IfSome}
+use Rattle.std.specs.Prelude.{◌≡◌, ℕ, ◌+◌, ◌<◌, ◌≤◌, Bool, true, false, List, length, IfSome, Result}
 use Rattle.std.specs.declared.option.Option.{Option}
 use Rattle.std.specs.Io.KnownBytes.{Appends, IsAtEnd, Keeps}
 use Rattle.crowd_data.specs.Scenario.{Parts}
-use Rattle.outside_io.specs.Causes.{AppendsPrefix, Rose, Takes, TakesAtMost}
+use Rattle.outside_io.specs.Causes.{AppendsPrefix, Rose, Takes, TakesAtMost, Wrote}
 use Rattle.command_words.specs.declared.commands.Command.{Command}
-use Rattle.orca_cli.specs.Output.{IsFor, IsRefusedBy, IsTextFor}
+use Rattle.orca_cli.specs.Output.{IsFor, IsRefusedBy}
 use Rattle.orca_cli.specs.Status.{input_limit}
 use Rattle.orca_cli.specs.declared.status.Status.{Status}
 use Rattle.orca_cli.specs.declared.status.Status.TheVariants.{Done, NoMemory, Usage, Refused, ReadFault, WriteFault, TooLong}
@@ -55,3 +55,7 @@ WroteOne IsText old new Usage = ⊥
 WroteOne IsText old new ReadFault = ⊥
 WroteOne IsText old new TooLong = ⊥
 WroteOne IsText old new (Refused index cause) = ⊥
+
+-- a text of some kind was written, or a prefix of it
+abbrev pub WroteSome : {T E : Type 0} → (List ℕ → Type 0) → Option (List ℕ) → Option (List ℕ) → Result T E → Type 0
+WroteSome IsText old new result = (text : List ℕ) × IsText text × Wrote old new result text

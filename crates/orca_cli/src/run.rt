@@ -1,9 +1,10 @@
 // The run of a scenario, written frame by frame.
-ghost use Rattle.std.specs.Prelude.{◌≡◌, ◌+◌, ◌≤◌, ℕ, List, length};
-ghost use Rattle.outside_io.specs.Causes.{HasCause, Wrote};
+ghost use Rattle.std.specs.Prelude.{◌≡◌, ◌+◌, ◌≤◌, length};
+ghost use Rattle.outside_io.specs.Causes.{HasCause};
 ghost use Rattle.crowd_data.specs.Run.{scripts_of, start_of};
 ghost use Rattle.frame_text.specs.Transcript.{IsTranscript};
 ghost use Rattle.orca_cli.specs.Behind.{IsTextBehind};
+ghost use Rattle.orca_cli.specs.Working.{WroteSome};
 
 use crate::scripted::step_scripted;
 use crowd_data::Post;
@@ -21,7 +22,7 @@ fn write_steps<T: Sink, G: Gate + Sync>(
 ) -> Result<(), Failed>
     requires start { stepper.old.frame.number ≡ 0 }
     requires room { length stepper.old.scenario.posts ≤ length script.old.items + script.old.spare }
-    ensures text { (text : List ℕ) × IsTextBehind stepper.old.scenario stepper.old.frame text × Wrote (T.held out.old) (T.held out.new) result text }
+    ensures text { WroteSome (IsTextBehind stepper.old.scenario stepper.old.frame) (T.held out.old) (T.held out.new) result }
     ensures cause { HasCause (T.faults out.old) (T.faults out.new) result }
 {
     let steps = stepper.scenario().steps();
@@ -43,7 +44,7 @@ pub(crate) fn write_run<T: Sink, G: Gate + Sync>(
 ) -> Result<(), Failed>
     requires start { stepper.old.frame ≡ start_of stepper.old.scenario }
     requires room { length stepper.old.scenario.posts ≤ length script.old.items + script.old.spare }
-    ensures text { (text : List ℕ) × IsTranscript stepper.old.scenario (scripts_of stepper.old.scenario) text × Wrote (T.held out.old) (T.held out.new) result text }
+    ensures text { WroteSome (IsTranscript stepper.old.scenario (scripts_of stepper.old.scenario)) (T.held out.old) (T.held out.new) result }
     ensures cause { HasCause (T.faults out.old) (T.faults out.new) result }
 {
     write_scenario(out, stepper.scenario())?;

@@ -1,5 +1,7 @@
 // A step with the scripted posts of its frame.
 ghost use Rattle.std.specs.Prelude.{◌≡◌, ◌+◌, ◌<◌, ◌≤◌, length};
+ghost use Rattle.std.specs.List.{All};
+ghost use Rattle.crowd_data.specs.Limits.{IsPost};
 ghost use Rattle.crowd_data.specs.Run.{IsNext, script_of};
 ghost use Rattle.crowd_data.specs.Scripts.{IsCursor};
 
@@ -22,12 +24,14 @@ pub(crate) fn step_scripted<G: Gate + Sync>(
     ensures scenario { stepper.new.scenario ≡ stepper.old.scenario }
     ensures next { IsNext stepper.old.scenario stepper.old.frame script.new.items stepper.new.frame }
     ensures script { script.new.items ≡ script_of stepper.old.scenario (stepper.old.frame.number + 1) }
+    ensures sound { All (IsPost (length stepper.old.scenario.agents)) script.new.items }
     ensures cursor { IsCursor stepper.old.scenario.posts (stepper.new.frame.number + 1) result }
     ensures room { length script.new.items + script.new.spare ≡ length script.old.items + script.old.spare }
 {
+    let posts = stepper.scenario().posts();
     let number = stepper.frame().number + 1;
     script.clear();
-    let later = push_script(script, stepper.scenario().posts(), place, number);
+    let later = push_script(script, posts, place, number);
     stepper.step_gated(script.items(), gate);
     later
 }

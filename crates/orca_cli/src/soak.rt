@@ -1,9 +1,10 @@
 // The run of a scenario, summed up.
-ghost use Rattle.std.specs.Prelude.{◌≡◌, ◌+◌, ◌≤◌, ℕ, List, length};
-ghost use Rattle.outside_io.specs.Causes.{HasCause, Wrote};
+ghost use Rattle.std.specs.Prelude.{◌≡◌, ◌+◌, ◌≤◌, length};
+ghost use Rattle.outside_io.specs.Causes.{HasCause};
 ghost use Rattle.crowd_data.specs.Run.{start_of};
 ghost use Rattle.run_summary.specs.Summary.{IsSummary};
 ghost use Rattle.orca_cli.specs.Behind.{SumsUp};
+ghost use Rattle.orca_cli.specs.Working.{WroteSome};
 
 use crate::scripted::step_scripted;
 use crowd_data::Post;
@@ -39,7 +40,7 @@ pub(crate) fn write_soak<T: Sink, G: Gate + Sync>(
 ) -> Result<(), Failed>
     requires start { stepper.old.frame ≡ start_of stepper.old.scenario }
     requires room { length stepper.old.scenario.posts ≤ length script.old.items + script.old.spare }
-    ensures text { (text : List ℕ) × IsSummary stepper.old.scenario text × Wrote (T.held out.old) (T.held out.new) result text }
+    ensures text { WroteSome (IsSummary stepper.old.scenario) (T.held out.old) (T.held out.new) result }
     ensures cause { HasCause (T.faults out.old) (T.faults out.new) result }
 {
     let summary = sum_up(stepper, script, gate);

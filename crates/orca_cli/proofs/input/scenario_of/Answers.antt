@@ -1,6 +1,6 @@
-use Rattle.std.proofs.Common.{◌≤◌, List, ℕ, length}
+use Rattle.std.proofs.Common.{◌≤◌, length}
 use Rattle.std.proofs.KnownBytes.{Consumes-whole}
-use Rattle.orca_cli.specs.Output.{IsRefusedBy, IsScenarioOf}
+use Rattle.orca_cli.specs.Output.{IsScenarioOf}
 use Rattle.orca_cli.specs.Status.{input_limit}
 use Rattle.orca_cli.proofs.input.scenario_of.Goals as goal
 
@@ -12,12 +12,3 @@ returns-in-Ok-read_scenario-clause-read g c =
       read.end,
       (c.in-Ok.bytes.items, read.short, read.all),
     )
-
-pub returns-in-Err-At-clause-fault : goal.returns-in-Err-At-clause-fault
-returns-in-Err-At-clause-fault g c =
-    let read = c.in-Ok.ensures in
-    let told = rw c.in-Err-At.field-0-is at (rw c.items.ensures at c.in-Err-At.ensures.refused) in
-    rw c.in-Err-At.index-is (rw c.in-Err-At.cause-is (
-      Consumes-whole _ _ c.in-Ok.bytes.items (λ whole. (length whole ≤ input_limit) × IsRefusedBy whole c.in-Err-At.index c.in-Err-At.cause) read.all read.end (read.short, told),
-      read.end,
-    ))

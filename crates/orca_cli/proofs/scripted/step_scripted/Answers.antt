@@ -1,0 +1,28 @@
+use Rattle.std.proofs.Common.{◌∙◌, List, length, ap, arith, subst, sym}
+use Rattle.std.specs.List.{All}
+use Rattle.crowd_data.specs.declared.post.Post.{Post}
+use Rattle.crowd_data.specs.declared.post.ScriptPost.{ScriptPost}
+use Rattle.crowd_data.specs.Limits.{IsPost, IsScriptPost}
+use Rattle.crowd_data.specs.Run.{Snapshot}
+use Rattle.crowd_data.specs.Scenario.{Parts}
+use Rattle.crowd_data.proofs.ScriptedPosts.{scripted_sound}
+use Rattle.orca_cli.proofs.scripted.step_scripted.Goals as goal
+
+pub overflow_add-number : goal.overflow_add-number
+overflow_add-number g c = omega (arith, ap (λ (f : Snapshot). f.number) c.frame.ensures.value, c.requires.below, c.scenario.ensures.valid.steps)
+
+pub step_gated-requires-clause-posts : goal.step_gated-requires-clause-posts
+step_gated-requires-clause-posts g c κs within =
+    let agents = length c.args.stepper.now.scenario.agents in
+    let posts = c.posts-posts.ensures.value ∙ ap (λ (s : Parts). s.posts) c.scenario.ensures.value in
+    let sound = subst (λ (list : List ScriptPost). All (IsScriptPost c.args.stepper.now.scenario.steps agents) list) (sym posts) c.scenario.ensures.valid.posts in
+    subst (λ (list : List Post). All (IsPost agents) list) (sym (c.items.ensures ∙ (rw (c.clear.ensures.items) at c.push_script-later.ensures.posts)))
+    (scripted_sound c.args.stepper.now.scenario.steps agents c.posts-posts.result.now 0 _ sound)
+
+pub returns-clause-sound : goal.returns-clause-sound
+returns-clause-sound g c =
+    let agents = length c.args.stepper.now.scenario.agents in
+    let posts = c.posts-posts.ensures.value ∙ ap (λ (s : Parts). s.posts) c.scenario.ensures.value in
+    let sound = subst (λ (list : List ScriptPost). All (IsScriptPost c.args.stepper.now.scenario.steps agents) list) (sym posts) c.scenario.ensures.valid.posts in
+    subst (λ (list : List Post). All (IsPost agents) list) (sym (rw (c.clear.ensures.items) at c.push_script-later.ensures.posts))
+    (scripted_sound c.args.stepper.now.scenario.steps agents c.posts-posts.result.now 0 _ sound)
