@@ -35,16 +35,16 @@ fn each_step_is_made_from_one_frame(rt: HostRuntime) -> Result<(), Fail> {
         List::with_room(rt.alloc(), 0)?,
         List::with_room(rt.alloc(), 0)?,
     );
-    let mut stepper = Stepper::open(rt.alloc(), scenario)?;
+    let mut stepper = Stepper::open(rt.alloc(), scenario, 1)?;
     assert_eq!(rt; stepper.frame().number, 0);
-    stepper.step();
+    stepper.step(&[]);
     let bodies = stepper.frame().bodies.items();
     assert_eq!(rt; bodies.len(), 2);
     assert_eq!(rt; bodies[0].pos, V2 { x: -300, y: 0 });
     assert_eq!(rt; bodies[1].pos, V2 { x: 1800, y: 0 });
     assert_eq!(rt; bodies[0].mark, Mark::Crowded);
     assert_eq!(rt; bodies[1].mark, Mark::Crowded);
-    stepper.step();
+    stepper.step(&[]);
     let bodies = stepper.frame().bodies.items();
     assert_eq!(rt; bodies.len(), 2);
     assert_eq!(rt; bodies[0].pos, V2 { x: -600, y: 0 });

@@ -1,5 +1,8 @@
 // Summaries of frames that are made by hand.
-ghost use Rattle.std.specs.Prelude.{◌≡◌, [], ◌∷◌, IfOk, ◌≤◌};
+ghost use Rattle.std.specs.Prelude.{◌≡◌, [], ◌∷◌, IfOk, ◌≤◌, ◌^◌, All, length};
+ghost use Rattle.fixed_vec.specs.Vector.{IsBelow};
+ghost use Rattle.crowd_data.specs.declared.frame.Body.{Body};
+ghost use Rattle.run_summary.specs.Summary.{body_limit};
 
 use crate::{Summary, write_summary};
 use crowd_data::{Agent, Body, Frame, Mark, Scenario};
@@ -65,6 +68,30 @@ fn scenario_of(alloc: Global, steps: u32) -> Result<Scenario, NoMemory>
     ))
 }
 
+// The callers learn nothing of these helpers, so that no proof computes on the text.
+
+fn text_of(alloc: Global, steps: u32, summary: &Summary, last: &Frame) -> Result<MemSink, Fail>
+    requires steps { steps ≤ 100000 }
+    requires few { length last.now.bodies.items ≤ body_limit }
+    requires small { All (λ (body : Body). IsBelow body.pos (2 ^ 31)) last.now.bodies.items }
+{
+    let scenario = scenario_of(alloc, steps)?;
+    let mut out = MemSink::open(alloc, 100, List::with_room(alloc, 0)?)?;
+    write_summary(&mut out, &scenario, summary, last)?;
+    Ok(out)
+}
+
+fn text_of_two(alloc: Global, first: &Frame, last: &Frame) -> Result<MemSink, Fail>
+    requires few_first { length first.now.bodies.items ≤ body_limit }
+    requires few_last { length last.now.bodies.items ≤ body_limit }
+    requires small { All (λ (body : Body). IsBelow body.pos (2 ^ 31)) last.now.bodies.items }
+{
+    let mut summary = Summary::empty();
+    summary.add(first);
+    summary.add(last);
+    text_of(alloc, 2, &summary, last)
+}
+
 // Ten bodies in two frames, for a scenario of one agent: four feasible, three fallback, one stopped, two crowded.
 #[test]
 fn two_frames(rt: HostRuntime) -> Result<(), Fail> {
@@ -123,12 +150,7 @@ fn two_frames(rt: HostRuntime) -> Result<(), Fail> {
             ..BODY
         },
     )?;
-    let mut summary = Summary::empty();
-    summary.add(&first);
-    summary.add(&last);
-    let scenario = scenario_of(rt.alloc(), 2)?;
-    let mut out = MemSink::open(rt.alloc(), 100, List::with_room(rt.alloc(), 0)?)?;
-    write_summary(&mut out, &scenario, &summary, &last)?;
+    let out = text_of_two(rt.alloc(), &first, &last)?;
     assert_eq!(rt;
         out.held(),
         b"soak,2,1,4,3,1,2,9,-8,4000000029\n".as_slice()
@@ -138,10 +160,8 @@ fn two_frames(rt: HostRuntime) -> Result<(), Fail> {
 
 #[test]
 fn no_steps(rt: HostRuntime) -> Result<(), Fail> {
-    let scenario = scenario_of(rt.alloc(), 0)?;
     let last = frame_of(rt.alloc(), 0, BODY, BODY, BODY, BODY, BODY)?;
-    let mut out = MemSink::open(rt.alloc(), 100, List::with_room(rt.alloc(), 0)?)?;
-    write_summary(&mut out, &scenario, &Summary::empty(), &last)?;
+    let out = text_of(rt.alloc(), 0, &Summary::empty(), &last)?;
     assert_eq!(rt; out.held(), b"soak,0,1,0,0,0,0,0,0,0\n".as_slice());
     Ok(())
 }
