@@ -6,7 +6,7 @@ const ONE_AGENT: &[u8] = b"crowd,1\nsteps,1\nagent,0,0,0,0,300,0,500,400,15000,0
 
 #[test]
 fn words_that_are_no_command(rt: HostRuntime) -> Result<(), Fail> {
-    let lists: [&[&str]; 12] = [
+    let lists: [&[&str]; 13] = [
         &[],
         &["walk"],
         &["Run"],
@@ -19,6 +19,15 @@ fn words_that_are_no_command(rt: HostRuntime) -> Result<(), Fail> {
         &["run", "--"],
         &["check", "--workers", "1"],
         &["sample", "--number", "0", "--agents", "1"],
+        &[
+            "sample",
+            "--number",
+            "00000000007",
+            "--agents",
+            "1",
+            "--steps",
+            "1",
+        ],
     ];
     for words in lists.iter() {
         let ended = ask(rt.alloc(), words, ONE_AGENT)?;
@@ -82,6 +91,26 @@ fn soak_of_one_agent(rt: HostRuntime) -> Result<(), Fail> {
     assert_eq!(rt;
         ended.out.held(),
         b"soak,0,1,0,0,0,0,0,-2426,-1881\n".as_slice()
+    );
+    Ok(())
+}
+
+#[test]
+fn soak_of_four_thousand_agents(rt: HostRuntime) -> Result<(), Fail> {
+    let words = [
+        "soak",
+        "--steps=50",
+        "--workers",
+        "8",
+        "--agents",
+        "4000",
+        "--number=7",
+    ];
+    let ended = ask(rt.alloc(), &words, b"nothing")?;
+    assert_eq!(rt; ended.status, 0);
+    assert_eq!(rt;
+        ended.out.held(),
+        b"soak,50,4000,191839,8161,0,0,36,-10174290,-20523825\n".as_slice()
     );
     Ok(())
 }
