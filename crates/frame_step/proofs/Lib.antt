@@ -1,4 +1,6 @@
 mod TakenPosts
 mod MovedBodies
+mod Pieces
 mod Present
+mod Rounds
 mod Stepping

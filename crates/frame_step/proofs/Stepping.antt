@@ -10,7 +10,7 @@ use Rattle.crowd_data.specs.SafeSteps.{IsSafeStep}
 use Rattle.crowd_data.specs.Scenario.{IsValid, Parts}
 use Rattle.crowd_data.proofs.Frames.{posted_present}
 use Rattle.run_law.specs.Laws.{EveryStepIsSafe}
-use Rattle.frame_step.specs.Moved.{AppendsMoved}
+use Rattle.frame_step.specs.Moved.{AreAllMoved}
 use Rattle.frame_step.proofs.MovedBodies.{next_is, next_posted, next_slow}
 use Rattle.frame_step.proofs.Present.{next_present}
 
@@ -23,18 +23,12 @@ module _ (scenario : Parts) (frame : Snapshot) (posts : List Post) (bodies : Lis
   pub frozen_present : IsPresent scenario frozen
   frozen_present = subst (λ (b : List Body). IsPresent scenario (record { number = frame.number; bodies = b })) (sym taken) (posted_present scenario frame posts present sound)
 
-  module _ (below : frame.number < scenario.steps) (old new : List Body) (count : ℕ) (none : old ≡ []) (all : count ≡ length scenario.agents)
-      (moved : AppendsMoved scenario frozen 0 count old new) where
+  module _ (below : frame.number < scenario.steps) (new : List Body) (moved : AreAllMoved (record { scenario = scenario; frame = frozen }) new) where
     abbrev pub made : Snapshot
     made = record { number = frame.number + 1; bodies = new }
 
-    all_moved : AppendsMoved scenario frozen 0 (length bodies) [] new
-    all_moved =
-        subst (λ (b : List Body). AppendsMoved scenario frozen 0 (length bodies) b new) none
-        (subst (λ n. AppendsMoved scenario frozen 0 n old new) (all ∙ sym frozen_present.full) moved)
-
     frozen_step : IsNext scenario frozen [] made
-    frozen_step = next_is scenario frozen new below all_moved
+    frozen_step = next_is scenario frozen new frozen_present.full moved below
 
     pub made_next : IsNext scenario frame posts made
     made_next =
@@ -42,7 +36,7 @@ module _ (scenario : Parts) (frame : Snapshot) (posts : List Post) (bodies : Lis
         (subst (λ (b : List Body). IsNext scenario (record { number = frame.number; bodies = b }) [] made) taken frozen_step)
 
     pub made_present : IsPresent scenario made
-    made_present = next_present scenario frozen made valid frozen_present frozen_step (next_slow scenario frozen new all_moved)
+    made_present = next_present scenario frozen made valid frozen_present frozen_step (next_slow scenario frozen new frozen_present.full moved)
 
     pub made_safe : EveryStepIsSafe scenario → IsSafeStep scenario frame made
     made_safe law = law frame made posts present made_next

@@ -1,2 +1,3 @@
-pub mod Present
 pub mod Moved
+pub mod Present
+pub mod Workers

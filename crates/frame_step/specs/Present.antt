@@ -13,6 +13,8 @@ use Rattle.agent_kdtree.specs.declared.tree.Tree.{Tree}
 use Rattle.agent_kdtree.specs.Stands.{HasRoomFor}
 use Rattle.agent_step.specs.declared.wall_blocks.WallBlocks.{WallBlocks}
 use Rattle.agent_step.specs.WallBlocks.{StandsForWalls}
+use Rattle.frame_step.specs.declared.team.Team.{Team}
+use Rattle.frame_step.specs.Workers.{IsTeam}
 
 -- a run up to its present frame
 pub record Course : Type 0 where
@@ -24,12 +26,12 @@ abbrev pub Holds : {A : Type 0} → ℕ → Held A → Type 0
 Holds count list = count ≤ length list.items + list.spare
 
 -- all that the steps of a run need was taken beforehand
-pub record IsReady (scenario : Parts) (frame : Snapshot) (made : List (List Plane)) (blocks : WallBlocks) (next : Held Body) (stand : Held Place) (index : Tree) (scratch : ℕ) : Type 0 where
+pub record IsReady (scenario : Parts) (frame : Snapshot) (made : List (List Plane)) (blocks : WallBlocks) (next : Held Body) (stand : Held Place) (index : Tree) (team : Team) : Type 0 where
   pub valid : IsValid scenario
   pub present : IsPresent scenario frame
   pub polygons : made ≡ map (λ (agent : Agent). ring_planes agent.speed) scenario.agents
   pub walls : StandsForWalls blocks scenario.segments
-  pub bodies : Holds (length scenario.agents) next
+  pub bodies : length next.items ≡ length scenario.agents
   pub places : Holds (length scenario.agents) stand
   pub tree : HasRoomFor index (length scenario.agents)
-  pub planes : length scenario.segments + 100 ≤ scratch
+  pub workers : IsTeam scenario frame.number team

@@ -1,13 +1,15 @@
 // How bodies move in a step.
-ghost use Rattle.std.specs.Prelude.{◌≡◌, ◌<◌, ◌≤◌, ◌+◌, ◌-◌, length};
+ghost use Rattle.std.specs.Prelude.{◌≡◌, ◌<◌, ◌≤◌, ◌+◌, ◌*◌, length};
 ghost use Rattle.crowd_data.specs.Limits.{IsVelocity};
-ghost use Rattle.crowd_data.specs.Present.{IsBody, IsPresent};
+ghost use Rattle.crowd_data.specs.Present.{IsBody};
 ghost use Rattle.crowd_data.specs.Run.{moved_body, snapshot_of};
-ghost use Rattle.frame_step.specs.Moved.{AppendsMoved};
+ghost use Rattle.frame_step.specs.Moved.{AreAllMoved, IsPieceMoved, KeepsMoved, MayStep, agents_per_piece};
 
+use crate::limits::{AGENTS_PER_PIECE, FIRST_WORKER};
 use agent_step::{Advice, FrozenCrowd, Scratch, advise};
 use crowd_data::{Body, Frame};
 use fixed_vec::{List, plus};
+use outside_io::Gate;
 
 // The body after a step.
 fn moved(body: &Body, advice: Advice, number: u32) -> Body
@@ -25,31 +27,59 @@ fn moved(body: &Body, advice: Advice, number: u32) -> Body
     }
 }
 
-/// Appends the bodies of the agents `from` to `to` (which is left out) after the step from a frame whose
-/// posts are taken in, and of which the crowd is the frozen state.
-pub(crate) fn move_range(
-    next: &mut List<Body>,
+/// Puts the bodies of a piece's agents as they are after the step from a frame whose posts are taken in, and of
+/// which the crowd is the frozen state.
+pub(crate) fn move_piece(
+    bodies: &mut List<Body>,
     crowd: &FrozenCrowd,
     frame: &Frame,
-    from: usize,
-    to: usize,
+    piece: u32,
     scratch: &mut Scratch,
 )
-    requires frame { crowd.now.frame ≡ snapshot_of frame.now }
-    requires below { frame.now.number < crowd.now.scenario.steps }
-    requires few { crowd.now.scenario.steps ≤ 100000 }
-    requires present { IsPresent crowd.now.scenario (snapshot_of frame.now) }
-    requires order { from ≤ to }
-    requires agents { to ≤ length crowd.now.scenario.agents }
-    requires room { to - from ≤ next.old.spare }
+    requires step { MayStep crowd.now (snapshot_of frame.now) }
+    requires bodies { length bodies.old.items ≡ length crowd.now.scenario.agents }
     requires planes { length crowd.now.scenario.segments + 100 ≤ scratch.old }
-    ensures moved { AppendsMoved crowd.now.scenario (snapshot_of frame.now) from (to - from) next.old.items next.new.items }
-    ensures room { length next.new.items + next.new.spare ≡ length next.old.items + next.old.spare }
+    ensures moved { IsPieceMoved crowd.now bodies.new.items piece }
+    ensures others { KeepsMoved crowd.now bodies.old.items bodies.new.items }
+    ensures count { length bodies.new.items ≡ length bodies.old.items }
     ensures planes { scratch.new ≡ scratch.old }
 {
-    let bodies = frame.bodies.items();
-    for who in from..to {
+    let old = frame.bodies.items();
+    let from = piece as usize * AGENTS_PER_PIECE;
+    let end = old.len().min(from + AGENTS_PER_PIECE);
+    for who in from..end {
         let advice = advise(crowd, who, scratch);
-        next.push(moved(&bodies[who], advice, frame.number));
+        bodies.set(who, moved(&old[who], advice, frame.number));
+    }
+}
+
+/// How many pieces so many agents make.
+pub(crate) fn piece_count(agents: usize) -> u32
+    requires { agents ≤ 10000 }
+    ensures covers { agents ≤ result * agents_per_piece }
+    ensures none_empty { result * agents_per_piece < agents + agents_per_piece }
+{
+    agents.div_ceil(AGENTS_PER_PIECE) as u32
+}
+
+/// Puts the bodies of all agents, one piece after another, as worker 0 passes the gate.
+pub(crate) fn move_alone<G: Gate>(
+    bodies: &mut List<Body>,
+    gate: &G,
+    crowd: &FrozenCrowd,
+    frame: &Frame,
+    scratch: &mut Scratch,
+)
+    requires step { MayStep crowd.now (snapshot_of frame.now) }
+    requires bodies { length bodies.old.items ≡ length crowd.now.scenario.agents }
+    requires few { length bodies.old.items ≤ 10000 }
+    requires planes { length crowd.now.scenario.segments + 100 ≤ scratch.old }
+    ensures moved { AreAllMoved crowd.now bodies.new.items }
+    ensures planes { scratch.new ≡ scratch.old }
+{
+    let pieces = piece_count(bodies.items().len());
+    for piece in 0..pieces {
+        gate.pass(FIRST_WORKER, u64::from(piece));
+        move_piece(bodies, crowd, frame, piece, scratch);
     }
 }

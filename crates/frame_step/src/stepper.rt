@@ -7,11 +7,11 @@ ghost use Rattle.crowd_data.specs.SafeSteps.{IsSafeStep};
 ghost use Rattle.crowd_data.specs.Scenario.{IsValid};
 ghost use Rattle.frame_step.specs.Present.{Course, IsReady};
 
-use crate::moves::move_range;
 use crate::places::place_all;
 use crate::posts::take_all;
+use crate::team::Team;
 use agent_kdtree::Tree;
-use agent_step::{FrozenCrowd, Polygons, Scratch, WallBlocks};
+use agent_step::{FrozenCrowd, Polygons, WallBlocks};
 use crowd_data::{Body, Frame, Place, Post, Scenario, first_frame};
 use fixed_vec::{List, NoMemory};
 use outside_io::{Gate, OpenGate};
@@ -31,7 +31,7 @@ pub struct Stepper {
     next: List<Body>,
     places: List<Place>,
     tree: Tree,
-    scratch: Scratch,
+    team: Team,
 }
 
 impl Model for Stepper {
@@ -39,11 +39,11 @@ impl Model for Stepper {
 
     ghost view = { λ s. record { scenario = s.scenario; frame = snapshot_of s.frame } };
 
-    ghost invariant = { λ s. IsReady s.scenario (snapshot_of s.frame) s.polygons s.walls s.next s.places s.tree s.scratch };
+    ghost invariant = { λ s. IsReady s.scenario (snapshot_of s.frame) s.polygons s.walls s.next s.places s.tree s.team };
 }
 
 impl Stepper {
-    /// The run of a scenario at its frame 0, for 1 to 64 workers; today one works, whatever their number. It
+    /// The run of a scenario at its frame 0, for 1 to 64 workers: the most threads that share a step. It
     /// takes all memory that the steps need; `NoMemory` is answered where memory runs out (documented, not
     /// proved).
     pub fn open(alloc: Global, scenario: Scenario, workers: u32) -> Result<Stepper, NoMemory>
@@ -52,13 +52,12 @@ impl Stepper {
         ensures scenario { IfOk result (λ s. s.scenario ≡ scenario) }
         ensures frame { IfOk result (λ s. s.frame ≡ start_of scenario) }
     {
-        let _workers = workers;
         let agents = scenario.agents().len();
         let polygons = Polygons::open(alloc, scenario.agents())?;
         let walls = WallBlocks::open(alloc, scenario.segments())?;
-        let scratch = Scratch::open(alloc, scenario.segments().len())?;
-        let next = List::with_room(alloc, agents)?;
+        let team = Team::open(alloc, &scenario, workers)?;
         let frame = first_frame(alloc, &scenario)?;
+        let next = first_frame(alloc, &scenario)?.bodies;
         let mut places = List::with_room(alloc, agents)?;
         place_all(&mut places, scenario.agents(), frame.bodies.items());
         let tree = Tree::open(alloc, places.items())?;
@@ -70,7 +69,7 @@ impl Stepper {
             next,
             places,
             tree,
-            scratch,
+            team,
         })
     }
 
@@ -111,8 +110,8 @@ impl Stepper {
         self.step_gated(rt, posts, &OpenGate);
     }
 
-    /// The same step, with a gate that each worker passes before each of its pieces. As long as one worker
-    /// does all, the gate isn't asked.
+    /// The same step, with a gate that each worker passes before each of its pieces: worker j as `16 + j`, by
+    /// the number of the piece. A piece is 32 agents by number, and the last one may have fewer.
     pub fn step_gated<R: Threads + Sync, G: Gate + Sync>(
         &mut self,
         rt: &R,
@@ -125,12 +124,10 @@ impl Stepper {
         ensures next { IsNext self.old.scenario self.old.frame posts.now self.new.frame }
         ensures safe { IsSafeStep self.old.scenario self.old.frame self.new.frame }
     {
-        let (_rt, _gate) = (rt, gate);
         take_all(&mut self.frame.bodies, posts);
         let agents = self.scenario.agents();
         place_all(&mut self.places, agents, self.frame.bodies.items());
         self.tree.rebuild(self.places.items());
-        self.next.clear();
         let crowd = FrozenCrowd::of(
             &self.scenario,
             &self.frame,
@@ -139,14 +136,8 @@ impl Stepper {
             self.places.items(),
             &self.tree,
         );
-        move_range(
-            &mut self.next,
-            &crowd,
-            &self.frame,
-            0,
-            agents.len(),
-            &mut self.scratch,
-        );
+        self.team
+            .move_all(rt, gate, &mut self.next, &crowd, &self.frame);
         swap(&mut self.frame.bodies, &mut self.next);
         self.frame.number += 1;
         every_step_is_safe(&self.scenario);

@@ -2,6 +2,7 @@ use Rattle.std.proofs.Common.{◌∙◌, ap, arith, length, sym, subst}
 use Rattle.crowd_data.specs.Run.{Snapshot, snapshot_of}
 use Rattle.crowd_data.proofs.Frames.{length-starting_bodies, start_present}
 use Rattle.agent_kdtree.specs.Stands.{HasRoomFor}
+use Rattle.frame_step.specs.Workers.{IsTeam}
 use Rattle.frame_step.proofs.Present.{length-placed}
 use Rattle.frame_step.proofs.stepper.Stepper.open.Goals as goal
 
@@ -26,8 +27,8 @@ invariant_of-result c =
       present = rw (c.in_ok-frame.ensures) (start_present c.args.scenario c.agents-agents.ensures.valid);
       polygons = rw c.agents.ensures.value at c.in_ok-polygons.ensures;
       walls = rw c.segments.ensures.value at c.in_ok-walls.ensures;
-      bodies = omega (arith, count, c.in_ok-next.ensures.room);
+      bodies = ap (λ (s : Snapshot). length s.bodies) c.in_ok-next.ensures ∙ length-starting_bodies 0 c.args.scenario.agents;
       places = omega (arith, ap length c.agents-2.ensures.value, c.place_all.ensures.room);
       tree = subst (HasRoomFor c.in_ok-tree.tree) (length-placed c.args.scenario (snapshot_of c.in_ok-frame.frame) _ full are) c.in_ok-tree.ensures;
-      planes = omega (arith, ap length c.segments-2.ensures.value, c.in_ok-scratch.ensures);
+      workers = subst (λ (s : Snapshot). IsTeam c.args.scenario s.number c.in_ok-team.team) (sym c.in_ok-frame.ensures) c.in_ok-team.ensures;
     }

@@ -1,9 +1,9 @@
-use Rattle.std.proofs.Common.{◌≡◌, ◌∙◌, ◌-◌, ap, arith, length, sym, subst}
+use Rattle.std.proofs.Common.{◌≡◌, ◌∙◌, ◌+◌, ap, arith, length, sym, subst}
 use Rattle.crowd_data.specs.Run.{Snapshot, snapshot_of}
 use Rattle.crowd_data.specs.Scenario.{Parts}
 use Rattle.agent_kdtree.specs.Stands.{HasRoomFor}
 use Rattle.agent_step.specs.Frozen.{FrozenState}
-use Rattle.frame_step.specs.Moved.{AppendsMoved}
+use Rattle.frame_step.specs.Workers.{IsTeam}
 use Rattle.frame_step.proofs.Present.{all_placed, length-placed}
 use Rattle.frame_step.proofs.Stepping.{frozen_present, made_next, made_present, made_safe}
 use Rattle.frame_step.proofs.stepper.Stepper.step_gated.Goals as goal
@@ -33,6 +33,9 @@ of-crowd-requires-clause-present g c =
     let ready = c.self.invariant in
     frozen_present c.self.inside.scenario (snapshot_of c.self.inside.frame) c.args.posts.now _ ready.valid ready.present (rw (← c.self.view_is) at c.requires.posts) c.take_all.ensures.items
 
+pub move_all-requires-clause-few : goal.move_all-requires-clause-few
+move_all-requires-clause-few g c = let ready = c.self.invariant in omega (arith, ready.bodies, ready.valid.agent_count)
+
 pub invariant_of-self : goal.invariant_of-self
 invariant_of-self g c =
     let ready = c.self.invariant in
@@ -41,17 +44,16 @@ invariant_of-self g c =
     let still = frozen_present scenario frame c.args.posts.now _ ready.valid ready.present (rw (← c.self.view_is) at c.requires.posts) c.take_all.ensures.items in
     let are = c.items-2.ensures ∙ (rw (c.agents-agents.ensures.value, c.items.ensures) at c.place_all.ensures.places) in
     let now : Snapshot = record { number = c.self.inside.frame.number; bodies = c.take_all.new.bodies.items } in
-    let moved = subst (λ (s : Parts). AppendsMoved s now 0 (length c.agents-agents.result.now - 0) c.clear.new.self.items c.move_range.new.next.items) (ap (λ (s : FrozenState). s.scenario) c.of-crowd.ensures) c.move_range.ensures.moved in
-    let count : length c.agents-agents.result.now - 0 ≡ length scenario.agents = omega (arith, ap length c.agents-agents.ensures.value) in
+    let moved = rw c.of-crowd.ensures at c.move_all.ensures.moved in
     record {
       valid = ready.valid;
-      present = rw (c.swap.ensures.x_after) (made_present scenario frame c.args.posts.now _ ready.valid ready.present (rw (← c.self.view_is) at c.requires.posts) c.take_all.ensures.items (rw (← c.self.view_is) at c.requires.below) _ _ _ c.clear.ensures.items count moved);
+      present = rw (c.swap.ensures.x_after) (made_present scenario frame c.args.posts.now _ ready.valid ready.present (rw (← c.self.view_is) at c.requires.posts) c.take_all.ensures.items (rw (← c.self.view_is) at c.requires.below) _ moved);
       polygons = ready.polygons;
       walls = ready.walls;
-      bodies = rw (c.swap.ensures.y_after) (omega (arith, still.full));
+      bodies = rw (c.swap.ensures.y_after) still.full;
       places = omega (arith, ap length c.agents-agents.ensures.value, c.place_all.ensures.room);
       tree = subst (HasRoomFor c.rebuild.new.self) (length-placed scenario now _ still.full are) c.rebuild.ensures.stands.room;
-      planes = rw (c.move_range.ensures.planes) ready.planes;
+      workers = subst (λ (s : FrozenState). IsTeam s.scenario (frame.number + 1) c.move_all.new.self) c.of-crowd.ensures (c.move_all.ensures.team frame.number (subst (λ (s : FrozenState). IsTeam s.scenario frame.number c.self.inside.team) (sym c.of-crowd.ensures) ready.workers));
     }
 
 pub returns-clause-next : goal.returns-clause-next
@@ -59,18 +61,14 @@ returns-clause-next g c =
     let ready = c.self.invariant in
     let scenario = c.self.inside.scenario in
     let frame = snapshot_of c.self.inside.frame in
-    let now : Snapshot = record { number = c.self.inside.frame.number; bodies = c.take_all.new.bodies.items } in
-    let moved = subst (λ (s : Parts). AppendsMoved s now 0 (length c.agents-agents.result.now - 0) c.clear.new.self.items c.move_range.new.next.items) (ap (λ (s : FrozenState). s.scenario) c.of-crowd.ensures) c.move_range.ensures.moved in
-    let count : length c.agents-agents.result.now - 0 ≡ length scenario.agents = omega (arith, ap length c.agents-agents.ensures.value) in
-    rw (← c.self.view_is, c.swap.ensures.x_after) (made_next scenario frame c.args.posts.now _ ready.valid ready.present (rw (← c.self.view_is) at c.requires.posts) c.take_all.ensures.items (rw (← c.self.view_is) at c.requires.below) _ _ _ c.clear.ensures.items count moved)
+    let moved = rw c.of-crowd.ensures at c.move_all.ensures.moved in
+    rw (← c.self.view_is, c.swap.ensures.x_after) (made_next scenario frame c.args.posts.now _ ready.valid ready.present (rw (← c.self.view_is) at c.requires.posts) c.take_all.ensures.items (rw (← c.self.view_is) at c.requires.below) _ moved)
 
 pub returns-clause-safe : goal.returns-clause-safe
 returns-clause-safe g c =
     let ready = c.self.invariant in
     let scenario = c.self.inside.scenario in
     let frame = snapshot_of c.self.inside.frame in
-    let now : Snapshot = record { number = c.self.inside.frame.number; bodies = c.take_all.new.bodies.items } in
-    let moved = subst (λ (s : Parts). AppendsMoved s now 0 (length c.agents-agents.result.now - 0) c.clear.new.self.items c.move_range.new.next.items) (ap (λ (s : FrozenState). s.scenario) c.of-crowd.ensures) c.move_range.ensures.moved in
-    let count : length c.agents-agents.result.now - 0 ≡ length scenario.agents = omega (arith, ap length c.agents-agents.ensures.value) in
+    let moved = rw c.of-crowd.ensures at c.move_all.ensures.moved in
     rw (← c.self.view_is, c.swap.ensures.x_after)
-    (made_safe scenario frame c.args.posts.now _ ready.valid ready.present (rw (← c.self.view_is) at c.requires.posts) c.take_all.ensures.items (rw (← c.self.view_is) at c.requires.below) _ _ _ c.clear.ensures.items count moved c.every_step_is_safe.ensures)
+    (made_safe scenario frame c.args.posts.now _ ready.valid ready.present (rw (← c.self.view_is) at c.requires.posts) c.take_all.ensures.items (rw (← c.self.view_is) at c.requires.below) _ moved c.every_step_is_safe.ensures)
