@@ -10,3 +10,4 @@ mod FramesAdded
 mod TranscriptRead
 mod OnlyMemory
 pub mod TranscriptText
+pub mod Comparisons
