@@ -1,8 +1,7 @@
 -- The rows of frames are added one after another, and make up these frames.
 use Rattle.std.proofs.Common.{◌≡◌, ◌∙◌, ◌<◌, ◌≤◌, ◌+◌, ◌-◌, ap, sym, refl, ℕ, zero, suc, true, false, List, [], ◌∷◌, ◌++◌, length, map, flat_map, append_assoc, length-append, subst, arith, Some, Ok}
-use Rattle.std.specs.Prelude.{◌==◌, nat_lt, nat_le, Result}
+use Rattle.std.specs.Prelude.{Result}
 use Rattle.std.specs.List.{All}
-use Rattle.std.proofs.lemmas.Bool.Decides.{nat_tests}
 use Rattle.std.proofs.lemmas.List.{append-nil}
 use Rattle.std.proofs.lemmas.List.Elements.{All-head, All-tail}
 use Rattle.csv.specs.Records.{field_at}

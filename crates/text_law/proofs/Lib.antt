@@ -11,3 +11,5 @@ mod TranscriptRead
 mod OnlyMemory
 pub mod TranscriptText
 pub mod Comparisons
+mod RunFrames
+mod RunText

@@ -1,11 +1,6 @@
 -- A text that reads back has no other cause.
-use Rattle.std.proofs.Common.{◌≡◌, ◌∙◌, inl, inr, sym, refl, ℕ, List, length, subst, Some, Ok, Err}
-use Rattle.std.specs.Prelude.{slice_get}
-use Rattle.std.specs.List.{All}
-use Rattle.std.proofs.lemmas.Option.{get_or_from_slice_get, slice_get_within}
-use Rattle.crowd_data.specs.declared.agent.Agent.{Agent}
+use Rattle.std.proofs.Common.{◌≡◌, ◌∙◌, sym, refl, ℕ, List, length, subst, Ok, Err}
 use Rattle.crowd_data.specs.Scenario.{Parts}
-use Rattle.crowd_data.specs.Walls.{IsClear}
 use Rattle.frame_text.specs.declared.cause.TranscriptCause.{TranscriptCause}
 use Rattle.frame_text.specs.declared.cause.TranscriptCause.TheVariants.{Scenario, Shape, Spelling}
 use Rattle.frame_text.specs.declared.cause.TranscriptFault.{TranscriptFault}
@@ -13,8 +8,6 @@ use Rattle.frame_text.specs.declared.cause.TranscriptFault.TheVariants.{NoMemory
 use Rattle.frame_text.specs.ReadTranscript.{IsFirstCause, IsRead, HasTranscriptFault, scenario_rows}
 use Rattle.frame_text.specs.Shape.{PostedFrame, frames_of}
 use Rattle.frame_text.specs.Spelling.{text_of}
-use Rattle.scenario_read.specs.declared.cause.Cause.{Cause}
-use Rattle.scenario_read.specs.Reading.{AllClear, IsRefusedFor, IsAccepted, outcome}
 use Rattle.scenario_read.specs.Records.{records_of}
 use Rattle.scenario_read.proofs.OneOutcome.{accepted_or_refused, same_parts}
 

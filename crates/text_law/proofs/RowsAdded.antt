@@ -1,8 +1,6 @@
 -- The rows of a scenario are added one after another, and make up that scenario.
-use Rattle.std.proofs.Common.{◌≡◌, ◌≢◌, ◌<◌, ◌≤◌, ◌+◌, sym, refl, ℕ, true, false, List, [], ◌∷◌, ◌++◌, length, map, append_assoc, subst, arith, Some, Ok}
-use Rattle.std.specs.Prelude.{nat_le, nat_lt}
+use Rattle.std.proofs.Common.{◌≡◌, ◌≢◌, ◌<◌, ◌≤◌, ◌+◌, sym, refl, ℕ, true, List, [], ◌∷◌, ◌++◌, length, map, append_assoc, subst, arith, Some, Ok}
 use Rattle.std.specs.List.{All, AllPairs}
-use Rattle.std.proofs.lemmas.Bool.Decides.{nat_tests}
 use Rattle.std.proofs.lemmas.List.{append-nil}
 use Rattle.csv.specs.Records.{field_at}
 use Rattle.crowd_data.specs.declared.agent.Agent.{Agent}
