@@ -20,6 +20,7 @@ use Rattle.scenario_read.specs.Numbers.{number_of}
 use Rattle.scenario_read.specs.Fields.{is_kind}
 use Rattle.scenario_read.specs.Values.{and_then, count_in, number_in, vector_in, within}
 use Rattle.scenario_read.specs.Records.{Record}
+use Rattle.frame_text.specs.declared.limits.TheConstants.{GREATEST_SEQ}
 use Rattle.frame_text.specs.Shape.{FramesSoFar, PostedFrame, all_frames, body_of_row, closed, ends, frames_from, is_end, is_whole, last_frame, mark_of_word, none_begun, number_of_row, or_stop, post_of_row, with_body, with_frame, with_ok, with_post, with_record, with_some}
 use Rattle.frame_text.specs.Shaped.{AreBodies, AreFrames, IsPrintedBody, IsPrintedPost, IsPostedFrame, IsShaped}
 
@@ -80,13 +81,13 @@ unfolding post_of_row
 post_limits row p agents e below =
     let t = if_then (length row == 6) _ p e in
     let (controller, is1, e1) = ok_then (count_in row 1 0 16) _ p t.1 in
-    let (seq, is2, e2) = ok_then (count_in row 2 0 4294967295) _ p e1 in
+    let (seq, is2, e2) = ok_then (count_in row 2 0 GREATEST_SEQ) _ p e1 in
     let (agent, is3, e3) = ok_then (count_in row 3 0 9999) _ p e2 in
     let (vel, is4, e4) = ok_then (vector_in row 4 5 16384) _ p e3 in
     let same = same_Some _ p e4 in
     record {
       controller = subst (λ (q : Post). q.controller ≤ 16) same (count_most row 1 16 controller is1);
-      seq = subst (λ (q : Post). q.seq ≤ 4294967295) same (count_most row 2 4294967295 seq is2);
+      seq = subst (λ (q : Post). q.seq ≤ GREATEST_SEQ) same (count_most row 2 GREATEST_SEQ seq is2);
       agent = below;
       vel = subst (λ (q : Post). IsVelocity q.vel) same (vector_most row 4 5 16384 vel is4);
     }
