@@ -9,7 +9,7 @@ use Rattle.crowd_data.specs.Neighbours.{IsNear, MissesNear, numbers, place_at, s
 use Rattle.agent_kdtree.specs.declared.bounds.Bounds.{Bounds}
 use Rattle.agent_kdtree.specs.Boxes.{Covers}
 use Rattle.agent_kdtree.specs.Missed.{IsMissed}
-use Rattle.agent_kdtree.proofs.SquaredGap.{squared_gap-comm}
+use Rattle.crowd_data.proofs.Sight.{squared_gap-comm}
 use Rattle.agent_kdtree.proofs.Stands.{numbers-contain}
 
 -- a place whose box is farther than all arms together

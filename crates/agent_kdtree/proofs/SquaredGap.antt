@@ -1,5 +1,5 @@
 -- The squared distance, by the sizes of two differences.
-use Rattle.std.proofs.Common.{◌≡◌, ◌^◌, ◌+◌, ◌*◌, ◌≤◌, ℕ, refl, sym, ◌∙◌, arith, ℤ, ◌+ℤ◌, ◌-ℤ◌, ◌*ℤ◌, unsigned_abs, FitsSigned, to_z, of_z, w64, to_z-of_z, mul-le-mul}
+use Rattle.std.proofs.Common.{◌≡◌, ◌^◌, ◌+◌, ◌*◌, ◌≤◌, ℕ, refl, arith, ℤ, ◌+ℤ◌, ◌-ℤ◌, ◌*ℤ◌, unsigned_abs, FitsSigned, to_z, of_z, w64, to_z-of_z, mul-le-mul}
 use Rattle.std.proofs.lemmas.Int.{ints}
 use Rattle.exact_algebra.proofs.Sizes.{square_abs}
 use Rattle.fixed_vec.specs.declared.vector.V2.{V2}
@@ -22,14 +22,6 @@ squared_gap-coded a b m n ha hb e f =
     let bx : FitsSigned w64 b.x = omega (arith, ints, hb) in
     let by : FitsSigned w64 b.y = omega (arith, ints, hb) in
     squared_gap-sizes a b m n (simp to_z-of_z at e) (simp to_z-of_z at f)
-
--- it is the same from either side
-pub squared_gap-comm : (a b : V2) → squared_gap a b ≡ squared_gap b a
-squared_gap-comm a b =
-    let e : unsigned_abs (a.x -ℤ b.x) ≡ unsigned_abs (b.x -ℤ a.x) = omega (arith, ints) in
-    let f : unsigned_abs (a.y -ℤ b.y) ≡ unsigned_abs (b.y -ℤ a.y) = omega (arith, ints) in
-    squared_gap-sizes a b (unsigned_abs (b.x -ℤ a.x)) (unsigned_abs (b.y -ℤ a.y)) (sym e) (sym f)
-    ∙ sym (squared_gap-sizes b a (unsigned_abs (b.x -ℤ a.x)) (unsigned_abs (b.y -ℤ a.y)) refl refl)
 
 -- it is no less where neither size is
 pub squared_gap-least : (a b : V2) (m n : ℕ) → m ≤ unsigned_abs (a.x -ℤ b.x) → n ≤ unsigned_abs (a.y -ℤ b.y) → m * m + n * n ≤ squared_gap a b

@@ -1,13 +1,14 @@
 -- All numbers, and trees over them.
 use Rattle.std.proofs.Common.{◌≡◌, ℕ, zero, suc, ◌<◌, ◌≤◌, List, [], ◌∷◌, length, refl, sym, ◌∙◌, subst, arith, ⊎_elim}
 use Rattle.std.proofs.lemmas.List.{length_push}
-use Rattle.std.proofs.lemmas.List.Elements.{All-nil, All-push, All-weaker, Contains-append_left, Contains-push}
+use Rattle.std.proofs.lemmas.List.Elements.{Contains-append_left, Contains-push}
 use Rattle.std.proofs.lemmas.List.Sorted.{All-permutation, length_permutation}
 use Rattle.std.proofs.lemmas.Bool.{cases_lt}
 use Rattle.std.specs.List.{All, Contains}
 use Rattle.std.specs.List.Sorted.{IsPermutation}
 use Rattle.crowd_data.specs.declared.pair.Place.{Place}
 use Rattle.crowd_data.specs.Neighbours.{numbers}
+use Rattle.crowd_data.proofs.Sight.{all_numbers}
 use Rattle.agent_kdtree.specs.declared.bounds.Bounds.{Bounds}
 use Rattle.agent_kdtree.specs.declared.tree.Tree.{Tree}
 use Rattle.agent_kdtree.specs.Boxes.{IsCovered, IsEnough, IsNode}
@@ -23,17 +24,12 @@ numbers-contain (suc n) k h =
     (λ (g : n ≤ k). let e : k ≡ n = omega arith in rw e (Contains-push (numbers n) n))
     (cases_lt k n)
 
-pub numbers-below : (n : ℕ) → All (λ k. k < n) (numbers n)
-numbers-below zero = All-nil (λ k. k < 0)
-numbers-below (suc n) =
-    All-push (λ k. k < suc n) (numbers n) n (All-weaker (λ k. k < n) (λ k. k < suc n) (λ k h. omega arith) (numbers n) (numbers-below n)) (omega arith)
-
 pub numbers-length : (n : ℕ) → length (numbers n) ≡ n
 numbers-length zero = refl
 numbers-length (suc n) = length_push (numbers n) n ∙ omega (arith, numbers-length n)
 
 pub order-below : (n : ℕ) (order : List ℕ) → IsPermutation (numbers n) order → All (λ k. k < n) order
-order-below n order p = All-permutation (λ k. k < n) (numbers n) order p (numbers-below n)
+order-below n order p = All-permutation (λ k. k < n) (numbers n) order p (all_numbers n)
 
 pub order-length : (n : ℕ) (order : List ℕ) → IsPermutation (numbers n) order → length order ≡ n
 order-length n order p = length_permutation (numbers n) order p ∙ numbers-length n

@@ -3,6 +3,7 @@ use Rattle.std.specs.Prelude.{ℕ, zero, suc, ◌+◌, ◌-◌, ◌*◌, ◌/◌
 use Rattle.std.specs.List.{All}
 use Rattle.fixed_vec.specs.declared.vector.V2.{V2}
 use Rattle.fixed_vec.specs.Vector.{IsBelow, zero_vector}
+use Rattle.crowd_data.specs.declared.limits.TheConstants.{GREATEST_RADIUS, GREATEST_SPEED}
 use Rattle.crowd_data.specs.declared.pair.Place.{Place}
 use Rattle.crowd_data.specs.Neighbours.{place_at}
 use Rattle.agent_kdtree.specs.declared.bounds.Bounds.{Bounds}
@@ -11,7 +12,7 @@ use Rattle.agent_kdtree.specs.declared.bounds.Bounds.{Bounds}
 pub record IsBounds (b : Bounds) : Type 0 where
   pub low : IsBelow b.low (2 ^ 31)
   pub high : IsBelow b.high (2 ^ 31)
-  pub greatest_reach : b.greatest_reach ≤ 32768 + 16384
+  pub greatest_reach : b.greatest_reach ≤ GREATEST_RADIUS + GREATEST_SPEED
 
 pub record IsNoHigher (a b : V2) : Type 0 where
   pub x : a.x ≤ℤ b.x

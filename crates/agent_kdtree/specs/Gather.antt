@@ -3,6 +3,7 @@ use Rattle.std.specs.Prelude.{ℕ, ◌≤◌, ◌^◌, if◌then◌else◌, List
 use Rattle.std.specs.List.{filter}
 use Rattle.fixed_vec.specs.declared.vector.V2.{V2}
 use Rattle.fixed_vec.specs.Vector.{IsBelow}
+use Rattle.crowd_data.specs.declared.limits.TheConstants.{GREATEST_RANGE, MOST_NEIGHBOURS}
 use Rattle.crowd_data.specs.declared.pair.Place.{Place}
 use Rattle.crowd_data.specs.Neighbours.{Seen, in_order, is_in_range, numbers, place_at, placed_in, squared_gap}
 use Rattle.agent_kdtree.specs.declared.query.Query.{Query}
@@ -10,8 +11,8 @@ use Rattle.agent_kdtree.specs.declared.query.Query.{Query}
 -- a query within the limits
 pub record IsQuery (q : Query) : Type 0 where
   pub at : IsBelow q.at (2 ^ 31)
-  pub range : q.range ≤ 65536
-  pub most : q.most ≤ 64
+  pub range : q.range ≤ GREATEST_RANGE
+  pub most : q.most ≤ MOST_NEIGHBOURS
 
 -- agent k as it is seen from a point
 abbrev pub seen_at : List Place → V2 → ℕ → Seen

@@ -1,4 +1,5 @@
 // Square cells of the plane.
+ghost use Rattle.crowd_data.specs.declared.limits.TheConstants.{GREATEST_RANGE};
 ghost use Rattle.std.specs.Prelude.{◌≡◌, ◌<◌, ◌≤◌, ◌^◌, ℤ, pos, ◌+ℤ◌, ◌-ℤ◌, ◌≤ℤ◌, IfSome, unsigned_abs};
 ghost use Rattle.fixed_vec.specs.declared.vector.V2.{V2};
 ghost use Rattle.fixed_vec.specs.Vector.{IsBelow};
@@ -42,7 +43,7 @@ fn line(edge: i64, width: u64, z: i64) -> u64
 
 fn before(at: i64, range: u32) -> i64
     requires at { unsigned_abs at < 2 ^ 31 }
-    requires range { range ≤ 65536 }
+    requires range { range ≤ GREATEST_RANGE }
     ensures value { result ≡ at -ℤ pos range }
     ensures small { unsigned_abs result < 2 ^ 32 }
 {
@@ -51,7 +52,7 @@ fn before(at: i64, range: u32) -> i64
 
 fn after(at: i64, range: u32) -> i64
     requires at { unsigned_abs at < 2 ^ 31 }
-    requires range { range ≤ 65536 }
+    requires range { range ≤ GREATEST_RANGE }
     ensures value { result ≡ at +ℤ pos range }
     ensures small { unsigned_abs result < 2 ^ 32 }
 {
@@ -63,7 +64,7 @@ pub(crate) fn first_line(edge: i64, width: u64, at: i64, range: u32) -> u64
     requires width { 0 < width }
     requires edge { unsigned_abs edge < 2 ^ 31 }
     requires at { unsigned_abs at < 2 ^ 31 }
-    requires range { range ≤ 65536 }
+    requires range { range ≤ GREATEST_RANGE }
     ensures { (z : ℤ) → edge ≤ℤ z → line_of edge width z < result → (z +ℤ pos range) ≤ℤ at }
 {
     let from = before(at, range);
@@ -80,7 +81,7 @@ pub(crate) fn last_line(edge: i64, width: u64, at: i64, range: u32) -> u64
     requires edge { unsigned_abs edge < 2 ^ 31 }
     requires at { unsigned_abs at < 2 ^ 31 }
     requires above { edge ≤ℤ at }
-    requires range { range ≤ 65536 }
+    requires range { range ≤ GREATEST_RANGE }
     ensures { (z : ℤ) → edge ≤ℤ z → result < line_of edge width z → (at +ℤ pos range) ≤ℤ z }
 {
     line(edge, width, after(at, range))

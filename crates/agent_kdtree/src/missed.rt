@@ -1,4 +1,5 @@
 // Near agents that a list misses.
+ghost use Rattle.crowd_data.specs.declared.limits.TheConstants.{GREATEST_RANGE};
 ghost use Rattle.std.specs.Prelude.{◌≡◌, ◌↔◌, ◌⊎◌, ◌+◌, ◌-◌, ◌*◌, ◌<◌, ◌≤◌, slice_index_or, All, Contains, IsFalse, IsTrue, length};
 ghost use Rattle.crowd_data.specs.declared.pair.Place.{Place};
 ghost use Rattle.crowd_data.specs.Neighbours.{IsNear, MissesNear, place_at};
@@ -73,7 +74,7 @@ pub(crate) fn near_distance_below(
 /// Whether neighbours, found with this range and most, show by themselves that nobody else is as near
 /// as this squared distance.
 pub(crate) fn lists_all_within(near: &[Near], range: u32, most: u32, far: u64) -> bool
-    requires { range ≤ 65536 }
+    requires { range ≤ GREATEST_RANGE }
     ensures { IsTrue result → (far < range * range) × (length near.now < most ⊎ (0 < most) × ((d : Near) → far < (slice_index_or near.now (length near.now - 1) d).dist)) }
 {
     if u64::from(range) * u64::from(range) <= far {

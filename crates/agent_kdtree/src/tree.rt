@@ -1,4 +1,5 @@
 // The tree over the places of all agents.
+ghost use Rattle.crowd_data.specs.declared.limits.TheConstants.{GREATEST_RANGE};
 ghost use Rattle.std.specs.Prelude.{◌≡◌, ◌↔◌, ◌<◌, ◌≤◌, ◌^◌, ◌*◌, ◌/◌, ◌+◌, [], All, IfOk, IsTrue, length, map};
 ghost use Rattle.crowd_data.specs.Neighbours.{MissesNear, neighbours, numbers};
 ghost use Rattle.agent_kdtree.specs.declared.near.Near.{Near};
@@ -97,7 +98,7 @@ impl Tree {
     pub fn nearest(&self, places: &[Place], who: u32, range: u32, most: u32) -> ArrayVec<Near, 64>
         requires stands { StandsFor self.now places.now }
         requires who { who < length places.now }
-        requires range { range ≤ 65536 }
+        requires range { range ≤ GREATEST_RANGE }
         requires most { most ≤ 64 }
         ensures { map seen_of result.items ≡ neighbours places.now who range most }
     {
@@ -118,7 +119,7 @@ impl Tree {
     )
         requires stands { StandsFor self.now places.now }
         requires who { who < length places.now }
-        requires range { range ≤ 65536 }
+        requires range { range ≤ GREATEST_RANGE }
         requires most { most ≤ 64 }
         requires empty { best.old.items ≡ [] }
         ensures { map seen_of best.new.items ≡ neighbours places.now who range most }
@@ -165,7 +166,7 @@ impl Tree {
     ) -> bool
         requires stands { StandsFor self.now places.now }
         requires who { who < length places.now }
-        requires range { range ≤ 65536 }
+        requires range { range ≤ GREATEST_RANGE }
         requires near { map seen_of near.now ≡ neighbours places.now who range most }
         ensures { IsTrue result ↔ MissesNear places.now who (map (λ (n : Near). n.agent) near.now) }
     {

@@ -168,7 +168,7 @@ fn with_speed(agent: Agent, speed: u32) -> Agent
     Agent { speed, ..agent }
 }
 
-fn heeding_one(agent: Agent) -> Agent
+fn considering_one(agent: Agent) -> Agent
     requires { IsAgent agent }
     ensures { IsAgent result }
 {
@@ -237,7 +237,7 @@ fn greatest_of_all_limits(rt: HostRuntime) -> Result<(), Fail> {
 }
 
 #[test]
-fn heeds_a_wall_that_it_stands_beside(rt: HostRuntime) -> Result<(), Fail> {
+fn considers_a_wall_that_it_stands_beside(rt: HostRuntime) -> Result<(), Fail> {
     let agent = Agent {
         pref: V2 { x: 0, y: 300 },
         ..WALKER
@@ -252,7 +252,7 @@ fn heeds_a_wall_that_it_stands_beside(rt: HostRuntime) -> Result<(), Fail> {
 }
 
 #[test]
-fn heeds_the_nearest_end_of_a_wall(rt: HostRuntime) -> Result<(), Fail> {
+fn considers_the_nearest_end_of_a_wall(rt: HostRuntime) -> Result<(), Fail> {
     let wall = Segment {
         a: V2 { x: 1000, y: 0 },
         b: V2 { x: 2000, y: 0 },
@@ -395,7 +395,7 @@ fn too_slow_to_leave_one_place(rt: HostRuntime) -> Result<(), Fail> {
 
 #[test]
 fn crowded_by_near_agents_that_it_misses(rt: HostRuntime) -> Result<(), Fail> {
-    let first = heeding_one(walker(ORIGIN, ORIGIN, ORIGIN));
+    let first = considering_one(walker(ORIGIN, ORIGIN, ORIGIN));
     let second = walker(V2 { x: 1500, y: 0 }, ORIGIN, ORIGIN);
     let near = walker(V2 { x: 0, y: 1700 }, ORIGIN, ORIGIN);
     let advice = three(rt.alloc(), first, second, near)?;
@@ -409,10 +409,10 @@ fn crowded_by_near_agents_that_it_misses(rt: HostRuntime) -> Result<(), Fail> {
     Ok(())
 }
 
-// Of two that are as near, it heeds the one with the lower number.
+// Of two that are as near, it considers the one with the lower number.
 #[test]
-fn heeds_the_lower_number(rt: HostRuntime) -> Result<(), Fail> {
-    let first = heeding_one(walker(ORIGIN, ORIGIN, V2 { x: 100, y: 0 }));
+fn considers_the_lower_number(rt: HostRuntime) -> Result<(), Fail> {
+    let first = considering_one(walker(ORIGIN, ORIGIN, V2 { x: 100, y: 0 }));
     let second = walker(V2 { x: 1200, y: 0 }, ORIGIN, ORIGIN);
     let third = walker(V2 { x: -1200, y: 0 }, ORIGIN, ORIGIN);
     let advice = three(rt.alloc(), first, second, third)?;

@@ -1,7 +1,6 @@
 -- The definitions on numbers worked out by hand.
-use Rattle.std.proofs.Common.{◌≡◌, ◌≤◌, ◌<◌, ◌-◌, ◌*◌, List, [], ◌∷◌, ℕ, refl, arith, pos, negsuc, mul-le-mul}
-use Rattle.exact_algebra.specs.Numbers.{ceil_root}
-use Rattle.exact_algebra.proofs.Rounding.{ceil_root_is}
+use Rattle.std.proofs.Common.{◌≡◌, List, [], ◌∷◌, ℕ, refl, arith, pos, negsuc}
+use Rattle.exact_algebra.proofs.Rounding.{ceil_root_between}
 use Rattle.fixed_vec.specs.declared.vector.V2.{V2}
 use Rattle.fixed_vec.specs.Vector.{zero_vector}
 use Rattle.crowd_data.specs.declared.frame.Body.{Body}
@@ -16,10 +15,6 @@ use Rattle.crowd_data.specs.Run.{after_posts, script_of}
 abbrev at : ℕ → ℕ → V2
 at x y = record { x = pos x; y = pos y }
 
--- a root, by two squares
-root_is : (m r : ℕ) → m ≤ r * r → (r - 1) * (r - 1) < m → ceil_root m ≡ r
-root_is m r h k = ceil_root_is m r h (λ j l. let p : j ≤ r - 1 = omega arith in omega (arith, mul-le-mul p p))
-
 -- ---- headings from the origin
 
 abbrev to : V2 → ℕ → Goal
@@ -27,14 +22,14 @@ to place pace = record { controller = 0; agent = 0; at = place; pace = pace }
 
 -- too far for one step: (300, 400) has the length 500
 far : heading zero_vector (to (at 300 400) 100) ≡ at 60 80
-far = rw (root_is 250000 500 (omega arith) (omega arith)) refl
+far = rw (ceil_root_between 250000 500 (omega arith) (omega arith)) refl
 
 within_a_step : heading zero_vector (to (at 300 400) 600) ≡ at 300 400
 within_a_step = refl
 
 -- (-7, -7) has the whole length 10, and -21/10 is cut towards zero
 cut_towards_zero : heading zero_vector (to (record { x = negsuc 6; y = negsuc 6 }) 3) ≡ record { x = negsuc 1; y = negsuc 1 }
-cut_towards_zero = rw (root_is 98 10 (omega arith) (omega arith)) refl
+cut_towards_zero = rw (ceil_root_between 98 10 (omega arith) (omega arith)) refl
 
 -- ---- neighbours
 

@@ -1,11 +1,14 @@
 -- Whom an agent sees: its neighbours are agents of the crowd within its range, and one that isn't crowded
 -- sees all that are near.
-use Rattle.std.proofs.Common.{◌≡◌, ◌≢◌, ◌⊎◌, inl, inr, ⊎_elim, ◌*◌, ◌<◌, ℕ, zero, suc, Bool, true, false, cond, List, [], ◌∷◌, map, length, All, refl, arith}
+use Rattle.std.proofs.Common.{◌≡◌, ◌≢◌, ◌⊎◌, inl, inr, ⊎_elim, ◌*◌, ◌<◌, ℕ, zero, suc, Bool, true, false, cond, List, [], ◌∷◌, map, length, All, refl, ap, arith, unsigned_abs}
 use Rattle.std.specs.Prelude.{Contains}
 use Rattle.std.specs.List.{filter}
 use Rattle.std.proofs.lemmas.Bool.{cases_eq, ltb-true}
 use Rattle.std.proofs.lemmas.List.Elements.{All-cons, All-contains, All-head, All-map, All-nil, All-push, All-tail, All-take, All-weaker}
+use Rattle.exact_algebra.proofs.Ring.{quotes, equal}
 use Rattle.exact_algebra.proofs.Tests.{both_of}
+use Rattle.fixed_vec.specs.declared.vector.V2.{V2}
+use Rattle.fixed_vec.specs.Vector.{minus, square}
 use Rattle.crowd_data.specs.declared.agent.Agent.{Agent}
 use Rattle.crowd_data.specs.declared.pair.Place.{Place}
 use Rattle.crowd_data.specs.Advice.{IsCrowded, agent_at, neighbours_of, place_of}
@@ -48,6 +51,12 @@ module _ (P : Seen → Type 0) where
   all_kept false a rest h all = all
 
 -- ---- range
+
+-- as far from b to a as from a to b
+pub squared_gap-comm : (a b : V2) → squared_gap a b ≡ squared_gap b a
+squared_gap-comm a b =
+    let e : square (minus a b) ≡ square (minus b a) = equal (a.x ∷ a.y ∷ b.x ∷ b.y ∷ []) (search quotes depth 40) tt in
+    ap unsigned_abs e
 
 pub all_numbers : (n : ℕ) → All (λ k. k < n) (numbers n)
 all_numbers zero = All-nil (λ k. k < zero)

@@ -37,3 +37,5 @@ pub use validity::valid;
 
 #[cfg(test)]
 mod tests;
+#[cfg(test)]
+mod validity_tests;

@@ -62,6 +62,10 @@ ceil_root_is m r h k = le_antisymm
 
 -- ---- the root rounded down
 
+-- a root, by two squares
+pub ceil_root_between : (m r : ℕ) → m ≤ r * r → (r - 1) * (r - 1) < m → ceil_root m ≡ r
+ceil_root_between m r h k = ceil_root_is m r h (λ j l. let p : j ≤ r - 1 = omega arith in omega (arith, mul-le-mul p p))
+
 pub floor_root_le : (m : ℕ) → floor_root m * floor_root m ≤ m
 floor_root_le m = by (ceil_root (m + 1)) (ceil_root_reaches (m + 1)) (ceil_root_first (m + 1))
   where

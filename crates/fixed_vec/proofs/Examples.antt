@@ -1,26 +1,21 @@
 -- The definitions on numbers worked out by hand.
-use Rattle.std.proofs.Common.{◌≡◌, ◌≤◌, ◌<◌, ◌-◌, ◌*◌, [], ◌∷◌, ℕ, refl, arith, ℤ, pos, negsuc, ◌+ℤ◌, ◌-ℤ◌, ◌*ℤ◌, ◌≤ℤ◌, ◌<ℤ◌, mul-le-mul}
+use Rattle.std.proofs.Common.{◌≡◌, [], ◌∷◌, refl, arith, ℤ, pos, negsuc, ◌+ℤ◌, ◌-ℤ◌, ◌*ℤ◌, ◌≤ℤ◌, ◌<ℤ◌}
 use Rattle.std.proofs.lemmas.Int.{ints}
 use Rattle.std.proofs.lemmas.List.Elements.{All-cons}
-use Rattle.exact_algebra.specs.Numbers.{ceil_root}
 use Rattle.exact_algebra.proofs.Ring.{quotes, shown}
 use Rattle.exact_algebra.proofs.Order.{square_nonneg, product_nonneg, sum_nonneg, gap_nonneg}
-use Rattle.exact_algebra.proofs.Rounding.{ceil_root_is}
+use Rattle.exact_algebra.proofs.Rounding.{ceil_root_between}
 use Rattle.fixed_vec.specs.Vector.{zero_vector}
 use Rattle.fixed_vec.specs.HalfPlane.{Plane, drawn_of, relieved_of, whole_length}
 use Rattle.fixed_vec.specs.Point.{IsIn, rounded_of}
 use Rattle.fixed_vec.specs.Meeting.{IsEmpty, Nearest}
 
--- a root, by two squares
-root_is : (m r : ℕ) → m ≤ r * r → (r - 1) * (r - 1) < m → ceil_root m ≡ r
-root_is m r h k = ceil_root_is m r h (λ j l. let p : j ≤ r - 1 = omega arith in omega (arith, mul-le-mul p p))
-
 -- L(3, 4) = 5, L(1, 1) = 2
 length_five : whole_length (record { x = pos 3; y = pos 4 }) ≡ 5
-length_five = root_is 25 5 (omega arith) (omega arith)
+length_five = ceil_root_between 25 5 (omega arith) (omega arith)
 
 length_two : whole_length (record { x = pos 1; y = pos 1 }) ≡ 2
-length_two = root_is 2 2 (omega arith) (omega arith)
+length_two = ceil_root_between 2 2 (omega arith) (omega arith)
 
 -- (1/2, -1/2) is rounded to (1, 0)
 halves_up : rounded_of (record { x = pos 1; y = negsuc 0; q = pos 2 }) ≡ record { x = pos 1; y = pos 0 }
@@ -90,7 +85,7 @@ nothing v h =
 -- relieved by one, the two have the origin, and nothing is nearer to it
 relieved : Nearest (relieved_of (right_of (pos 1)) 1 ∷ relieved_of (left_of (pos 0)) 1 ∷ []) zero_vector (record { x = pos 0; y = pos 0; q = pos 1 })
 relieved =
-    rw (root_is 1 1 (omega arith) (omega arith))
+    rw (ceil_root_between 1 1 (omega arith) (omega arith))
     (record {
       meets =
           record {

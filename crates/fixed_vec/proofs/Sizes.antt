@@ -1,7 +1,6 @@
 -- How large the numbers of a plane and a point are.
-use Rattle.std.proofs.Common.{◌≡◌, ℕ, ◌*◌, ◌^◌, ◌<◌, ◌≤◌, List, [], ◌∷◌, ⊎_elim, arith, ℤ, pos, negsuc, ◌*ℤ◌, ◌<ℤ◌, unsigned_abs, mul-le-mul}
+use Rattle.std.proofs.Common.{ℕ, ◌*◌, ◌^◌, ◌<◌, ◌≤◌, List, [], ◌∷◌, arith, ℤ, pos, ◌<ℤ◌, unsigned_abs}
 use Rattle.std.proofs.lemmas.Int.{ints}
-use Rattle.std.proofs.lemmas.Bool.{cases_lt}
 use Rattle.exact_algebra.proofs.Machine.{Within}
 use Rattle.exact_algebra.proofs.Sizes.{root_lt, square_abs}
 use Rattle.fixed_vec.specs.declared.vector.V2.{V2}

@@ -1,5 +1,5 @@
 -- Squared lengths of vectors.
-use Rattle.std.proofs.Common.{◌≡◌, [], ◌∷◌, arith, ℤ, pos, ◌≤ℤ◌, unsigned_abs}
+use Rattle.std.proofs.Common.{◌≡◌, [], ◌∷◌, arith, pos, ◌≤ℤ◌, unsigned_abs}
 use Rattle.std.proofs.lemmas.Int.{ints}
 use Rattle.exact_algebra.proofs.Order.{square_nonneg, sum_nonneg}
 use Rattle.exact_algebra.proofs.Ring.{equal, quotes}

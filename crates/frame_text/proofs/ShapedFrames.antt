@@ -1,14 +1,16 @@
 -- Frames that the fold over the records accepts are of a transcript's shape.
-use Rattle.std.proofs.Common.{◌≡◌, ◌∙◌, ◌<◌, ◌≤◌, ◌+◌, ◌-◌, ◌&&◌, ◌⊎◌, inl, inr, ap, sym, refl, ℕ, zero, suc, Bool, true, false, cond, List, [], ◌∷◌, ◌++◌, length, length-append, subst, arith, Some, None, Ok, Err, ℤ, pos, neg_ℤ, ◌≤ℤ◌, int_le, unsigned_abs}
-use Rattle.std.specs.Prelude.{◌==◌, ◌||◌, nat_lt, nat_le, Result, if◌then◌else◌, codes}
+use Rattle.std.proofs.Common.{◌≡◌, ◌<◌, ◌≤◌, ◌+◌, ◌-◌, ◌&&◌, inl, inr, refl, ℕ, Bool, true, false, cond, List, [], ◌∷◌, ◌++◌, length, length-append, subst, arith, Some, None, Ok, Err, ℤ, pos, neg_ℤ, ◌≤ℤ◌, int_le, unsigned_abs}
+use Rattle.std.specs.Prelude.{◌==◌, nat_lt, nat_le, Result, codes}
 use Rattle.std.specs.List.{All}
 use Rattle.std.specs.declared.option.Option.{Option}
 use Rattle.std.proofs.lemmas.Bool.Decides.{nat_tests}
 use Rattle.std.proofs.lemmas.Int.{ints}
 use Rattle.std.proofs.lemmas.List.Elements.{All-nil, All-push}
+use Rattle.std.proofs.lemmas.Option.{same_Some}
+use Rattle.exact_algebra.proofs.Choices.{chosen}
+use Rattle.exact_algebra.proofs.Tests.{both_of}
 use Rattle.fixed_vec.specs.declared.vector.V2.{V2}
 use Rattle.crowd_data.specs.declared.frame.Body.{Body}
-use Rattle.crowd_data.specs.declared.frame.Mark.{Mark}
 use Rattle.crowd_data.specs.declared.post.Post.{Post}
 use Rattle.crowd_data.specs.Limits.{IsVelocity, IsWithin}
 use Rattle.crowd_data.specs.Scenario.{Parts}
@@ -18,6 +20,7 @@ use Rattle.scenario_read.specs.Numbers.{number_of}
 use Rattle.scenario_read.specs.Fields.{is_kind}
 use Rattle.scenario_read.specs.Values.{and_then, count_in, number_in, vector_in, within}
 use Rattle.scenario_read.specs.Records.{Record}
+use Rattle.frame_text.specs.declared.limits.TheConstants.{GREATEST_SEQ}
 use Rattle.frame_text.specs.Shape.{FramesSoFar, PostedFrame, all_frames, body_of_row, closed, ends, frames_from, is_end, is_whole, last_frame, mark_of_word, none_begun, number_of_row, or_stop, post_of_row, with_body, with_frame, with_ok, with_post, with_record, with_some}
 use Rattle.frame_text.specs.Shaped.{AreBodies, AreFrames, IsPrintedBody, IsPrintedPost, IsPostedFrame, IsShaped}
 
@@ -35,20 +38,9 @@ and_ok : {A B : Type 0} (r : Result A Cause) (more : A → Result B Cause) (b : 
 and_ok (Ok a) more b e = (a, refl, e)
 and_ok (Err c) more b e = cc e
 
-chosen : {A : Type 0} (b : Bool) (x y z : A) → cond b x y ≡ z → ((b ≡ true) × (x ≡ z)) ⊎ ((b ≡ false) × (y ≡ z))
-chosen true x y z e = inl (refl, e)
-chosen false x y z e = inr (refl, e)
-
 if_then : {A : Type 0} (t : Bool) (x : Option A) (y : A) → cond t x None ≡ Some y → (t ≡ true) × (x ≡ Some y)
 if_then true x y e = (refl, e)
 if_then false x y e = cc e
-
-both : (a b : Bool) → (a && b) ≡ true → (a ≡ true) × (b ≡ true)
-both true b e = (refl, e)
-both false b e = cc e
-
-some_is : {A : Type 0} (x y : A) → Some x ≡ Some y → x ≡ y
-some_is x y e = cc e
 
 ok_is : {A : Type 0} (x y : A) → ◌≡◌ {A = Result A Cause} (Ok x) (Ok y) → x ≡ y
 ok_is x y e = cc e
@@ -56,7 +48,7 @@ ok_is x y e = cc e
 -- ---- the limits of fields
 
 tested : (low high z : ℤ) → (int_le low z && int_le z high) ≡ true → (low ≤ℤ z) × (z ≤ℤ high)
-tested low high z e = let h = both (int_le low z) (int_le z high) e in (grind (arith, ints), grind (arith, ints))
+tested low high z e = let h = both_of (int_le low z) (int_le z high) e in (grind (arith, ints), grind (arith, ints))
 
 within_by : (k : ℕ) (low high y z : ℤ) (t : Bool) → (int_le low y && int_le y high) ≡ t → within k low high (Some y) ≡ Ok z → (low ≤ℤ z) × (z ≤ℤ high)
 within_by k low high y z true e h = let same = ok_is y z (rw e at h) in subst (λ (x : ℤ). (low ≤ℤ x) × (x ≤ℤ high)) same (tested low high y e)
@@ -89,13 +81,13 @@ unfolding post_of_row
 post_limits row p agents e below =
     let t = if_then (length row == 6) _ p e in
     let (controller, is1, e1) = ok_then (count_in row 1 0 16) _ p t.1 in
-    let (seq, is2, e2) = ok_then (count_in row 2 0 4294967295) _ p e1 in
+    let (seq, is2, e2) = ok_then (count_in row 2 0 GREATEST_SEQ) _ p e1 in
     let (agent, is3, e3) = ok_then (count_in row 3 0 9999) _ p e2 in
     let (vel, is4, e4) = ok_then (vector_in row 4 5 16384) _ p e3 in
-    let same = some_is _ p e4 in
+    let same = same_Some _ p e4 in
     record {
       controller = subst (λ (q : Post). q.controller ≤ 16) same (count_most row 1 16 controller is1);
-      seq = subst (λ (q : Post). q.seq ≤ 4294967295) same (count_most row 2 4294967295 seq is2);
+      seq = subst (λ (q : Post). q.seq ≤ GREATEST_SEQ) same (count_most row 2 GREATEST_SEQ seq is2);
       agent = below;
       vel = subst (λ (q : Post). IsVelocity q.vel) same (vector_most row 4 5 16384 vel is4);
     }
@@ -110,7 +102,7 @@ body_limits row b e =
     let (pref, is4, e4) = ok_then (vector_in row 6 7 16384) _ b e3 in
     let (mark, is5, e5) = some_then (mark_of_word (field_text row 8)) _ b e4 in
     let (relief, is6, e6) = ok_then (count_in row 9 0 262143) _ b e5 in
-    subst IsPrintedBody (some_is _ b e6)
+    subst IsPrintedBody (same_Some _ b e6)
     (record { pos = vector_most row 2 3 2147483647 at is2; vel = vector_most row 4 5 16384 vel is3; pref = vector_most row 6 7 16384 pref is4; relief = count_most row 9 262143 relief is6 })
 
 -- ---- the frames so far
@@ -167,30 +159,30 @@ module _ (s : Parts) where
   after_frame : (f g : FramesSoFar) (number : ℕ) → IsSoFar s f → with_frame s f number ≡ Some g → IsSoFar s g
   after_frame f g number h e =
       let t = if_then ((number == f.begun) && nat_le number s.steps && is_whole s f) (Some (record { whole = all_frames f; begun = number + 1; posts = []; bodies = [] })) g e in
-      let c = both ((number == f.begun) && nat_le number s.steps) (is_whole s f) t.0 in
-      let d = both (number == f.begun) (nat_le number s.steps) c.0 in
+      let c = both_of ((number == f.begun) && nat_le number s.steps) (is_whole s f) t.0 in
+      let d = both_of (number == f.begun) (nat_le number s.steps) c.0 in
       let here = equal_is number f.begun d.0 in
       let le = at_most_is number s.steps d.1 in
       let all = all_shaped f h c.1 in
-      subst (IsSoFar s) (some_is _ g t.1) (record { frames = all.0; count = (let size = all.1 in omega arith); steps = omega arith; posts = All-nil _; none = λ _. refl; bodies = tt })
+      subst (IsSoFar s) (same_Some _ g t.1) (record { frames = all.0; count = (let size = all.1 in omega arith); steps = omega arith; posts = All-nil _; none = λ _. refl; bodies = tt })
 
   after_post : (f g : FramesSoFar) (p : Post) → (p.agent < length s.agents → IsPrintedPost (length s.agents) p) → IsSoFar s f → with_post s f p ≡ Some g → IsSoFar s g
   after_post f g p limits h e =
       let t = if_then (nat_lt 1 f.begun && (length f.bodies == 0) && nat_lt p.agent (length s.agents)) (Some (record f { posts = f.posts ++ p ∷ [] })) g e in
-      let c = both (nat_lt 1 f.begun && (length f.bodies == 0)) (nat_lt p.agent (length s.agents)) t.0 in
-      let d = both (nat_lt 1 f.begun) (length f.bodies == 0) c.0 in
+      let c = both_of (nat_lt 1 f.begun && (length f.bodies == 0)) (nat_lt p.agent (length s.agents)) t.0 in
+      let d = both_of (nat_lt 1 f.begun) (length f.bodies == 0) c.0 in
       let later = less_is 1 f.begun d.0 in
       let fits = limits (less_is p.agent (length s.agents) c.1) in
-      subst (IsSoFar s) (some_is _ g t.1)
+      subst (IsSoFar s) (same_Some _ g t.1)
       (record { frames = h.frames; count = h.count; steps = h.steps; posts = All-push (IsPrintedPost (length s.agents)) f.posts p h.posts fits; none = λ le. absurd (omega arith); bodies = h.bodies })
 
   after_body : (f g : FramesSoFar) (b : Body) → IsPrintedBody b → IsSoFar s f → with_body s f b ≡ Some g → IsSoFar s g
   after_body f g b fits h e =
       let t = if_then (nat_lt 0 f.begun && (b.agent == length f.bodies) && nat_lt b.agent (length s.agents)) (Some (record f { bodies = f.bodies ++ b ∷ [] })) g e in
-      let c = both (nat_lt 0 f.begun && (b.agent == length f.bodies)) (nat_lt b.agent (length s.agents)) t.0 in
-      let d = both (nat_lt 0 f.begun) (b.agent == length f.bodies) c.0 in
+      let c = both_of (nat_lt 0 f.begun && (b.agent == length f.bodies)) (nat_lt b.agent (length s.agents)) t.0 in
+      let d = both_of (nat_lt 0 f.begun) (b.agent == length f.bodies) c.0 in
       let here = equal_is b.agent (length f.bodies) d.1 in
-      subst (IsSoFar s) (some_is _ g t.1)
+      subst (IsSoFar s) (same_Some _ g t.1)
       (record { frames = h.frames; count = h.count; steps = h.steps; posts = h.posts; none = h.none; bodies = bodies_more 0 f.bodies b h.bodies (omega arith) fits })
 
   after_record : (f g : FramesSoFar) (row : Record) → IsSoFar s f → with_record s f row ≡ Some g → IsSoFar s g
@@ -210,7 +202,7 @@ module _ (s : Parts) where
 
   end_is : (f : FramesSoFar) (o : Option ℕ) → ends s f o ≡ true → (0 < f.begun) × (is_whole s f ≡ true)
   end_is f None e = cc e
-  end_is f (Some n) e = let t = both (n + 1 == f.begun) (is_whole s f) e in let here = equal_is (n + 1) f.begun t.0 in (omega arith, t.1)
+  end_is f (Some n) e = let t = both_of (n + 1 == f.begun) (is_whole s f) e in let here = equal_is (n + 1) f.begun t.0 in (omega arith, t.1)
 
   closed_is : (f : FramesSoFar) (k : ℕ) (rest : List Record) (frames : List PostedFrame) → closed f k rest ≡ Ok frames → all_frames f ≡ frames
   closed_is f k [] frames e = cc e
@@ -224,7 +216,7 @@ module _ (s : Parts) where
   shaped_at_end : (f : FramesSoFar) (row : Record) (k : ℕ) (rest : List Record) (frames : List PostedFrame) → IsSoFar s f → is_end s f row ≡ true → closed f k rest ≡ Ok frames → IsShaped s frames
   unfolding is_end
   shaped_at_end f row k rest frames h e same =
-      let t = both (is_kind row (codes "end")) (ends s f (number_of_row row)) e in
+      let t = both_of (is_kind row (codes "end")) (ends s f (number_of_row row)) e in
       let (some, whole) = end_is f (number_of_row row) t.1 in
       let all = all_shaped f h whole in
       subst (IsShaped s) (closed_is f k rest frames same) (record { some = (let size = all.1 in omega arith); each = all.0 })

@@ -12,7 +12,7 @@ use Rattle.crowd_data.specs.declared.limits.TheConstants.{GREATEST_AGENT, GREATE
 use Rattle.crowd_data.specs.declared.post.TheConstants.{SCRIPT}
 use Rattle.crowd_data.specs.Run.{Snapshot, snapshot_of}
 use Rattle.crowd_data.specs.Scenario.{Parts}
-use Rattle.frame_text.specs.declared.limits.TheConstants.{GREATEST_PLACE, GREATEST_RELIEF}
+use Rattle.frame_text.specs.declared.limits.TheConstants.{GREATEST_PLACE, GREATEST_RELIEF, GREATEST_SEQ}
 use Rattle.scenario_read.specs.declared.cause.Cause.{Cause}
 use Rattle.scenario_read.specs.Fields.{field_text}
 use Rattle.scenario_read.specs.Fields.{is_kind}
@@ -48,7 +48,7 @@ unfoldable pub post_of_row : Record → Option Post
 post_of_row row =
     if length row == 6
     then with_ok (count_in row 1 0 SCRIPT) (λ controller.
-    with_ok (count_in row 2 0 4294967295) (λ seq.
+    with_ok (count_in row 2 0 GREATEST_SEQ) (λ seq.
     with_ok (count_in row 3 0 GREATEST_AGENT) (λ agent.
     with_ok (vector_in row 4 5 GREATEST_SPEED) (λ vel.
     Some (record { controller = controller; seq = seq; agent = agent; vel = vel })))))

@@ -4,7 +4,7 @@ use Rattle.std.specs.List.{All}
 use Rattle.crowd_data.specs.declared.frame.Body.{Body}
 use Rattle.crowd_data.specs.declared.post.Post.{Post}
 use Rattle.crowd_data.specs.declared.post.TheConstants.{SCRIPT}
-use Rattle.frame_text.specs.declared.limits.TheConstants.{GREATEST_PLACE, GREATEST_RELIEF}
+use Rattle.frame_text.specs.declared.limits.TheConstants.{GREATEST_PLACE, GREATEST_RELIEF, GREATEST_SEQ}
 use Rattle.crowd_data.specs.Limits.{IsVelocity, IsWithin}
 use Rattle.crowd_data.specs.Scenario.{Parts}
 use Rattle.frame_text.specs.Shape.{PostedFrame}
@@ -12,7 +12,7 @@ use Rattle.frame_text.specs.Shape.{PostedFrame}
 -- a post of a controller or of the script, for an agent that exists
 pub record IsPrintedPost (agents : ℕ) (post : Post) : Type 0 where
   pub controller : post.controller ≤ SCRIPT
-  pub seq : post.seq ≤ 4294967295
+  pub seq : post.seq ≤ GREATEST_SEQ
   pub agent : post.agent < agents
   pub vel : IsVelocity post.vel
 

@@ -8,7 +8,7 @@ ghost use Rattle.frame_text.specs.Shape.{all_frames, body_of_row, is_end, is_who
 ghost use Rattle.frame_text.specs.declared.frame_records.FrameFault.TheVariants.{NoMemory as OutOfMemory};
 
 use crate::frames::Frames;
-use crate::limits::{GREATEST_PLACE, GREATEST_RELIEF};
+use crate::limits::{GREATEST_PLACE, GREATEST_RELIEF, GREATEST_SEQ};
 use crowd_data::{
     Body, Frame, GREATEST_AGENT, GREATEST_SPEED, MOST_STEPS, Mark, Moves, Post, SCRIPT, Scenario,
 };
@@ -58,7 +58,7 @@ fn post_of(row: &ByteRecord) -> Option<Post>
     let Ok(controller) = count_in(row, 1, 0, SCRIPT) else {
         return None;
     };
-    let Ok(seq) = count_in(row, 2, 0, u32::MAX) else {
+    let Ok(seq) = count_in(row, 2, 0, GREATEST_SEQ) else {
         return None;
     };
     let Ok(agent) = count_in(row, 3, 0, GREATEST_AGENT) else {

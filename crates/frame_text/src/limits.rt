@@ -5,3 +5,6 @@ pub(crate) const GREATEST_PLACE: u32 = 2_147_483_647;
 
 /// The greatest relief.
 pub(crate) const GREATEST_RELIEF: u32 = 262_143;
+
+/// The greatest place of a post among the posts of its controller.
+pub(crate) const GREATEST_SEQ: u32 = 4_294_967_295;

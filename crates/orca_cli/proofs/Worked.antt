@@ -1,20 +1,15 @@
 -- What the parts of a command answer makes the causes of its status.
-use Rattle.std.proofs.Common.{◌≡◌, ◌∙◌, inl, inr, ◌≤◌, ℕ, Bool, true, false, List, [], length, Option, Some, None, IfSome, refl, sym, subst, arith, true≢false}
-use Rattle.std.specs.List.{All, slice_get}
+use Rattle.std.proofs.Common.{◌≡◌, ◌∙◌, ◌≤◌, ℕ, Bool, true, false, List, [], length, Option, Some, None, IfSome, refl, sym, subst, arith, true≢false}
 use Rattle.std.specs.Io.KnownBytes.{Keeps}
 use Rattle.std.proofs.KnownBytes.{Consumes-kept, Consumes-nil}
-use Rattle.std.proofs.lemmas.Option.{get_or_from_slice_get, slice_get_within}
 use Rattle.outside_io.specs.Causes.{TakesAtMost}
 use Rattle.command_words.specs.Commands.{command_of}
 use Rattle.command_words.specs.declared.commands.Command.{Command}
 use Rattle.command_words.specs.declared.commands.Command.TheVariants.{Run, Check, Sample, Soak}
-use Rattle.crowd_data.specs.declared.agent.Agent.{Agent}
 use Rattle.crowd_data.specs.Scenario.{Parts}
-use Rattle.crowd_data.specs.Walls.{IsClear}
 use Rattle.run_law.specs.Laws.{EveryRunIsSafe}
-use Rattle.scenario_read.specs.declared.cause.Cause.{Cause}
-use Rattle.scenario_read.specs.Reading.{AllClear, IsAccepted, IsRefusedFor}
-use Rattle.scenario_read.specs.Records.{Record, records_of}
+use Rattle.scenario_read.specs.Records.{records_of}
+use Rattle.scenario_read.proofs.OneOutcome.{accepted_or_refused}
 use Rattle.orca_cli.specs.Output.{IsFor, IsRefused, IsScenarioOf, IsTextFor, RunsAreSafe, reads}
 use Rattle.orca_cli.specs.Status.{Channels, Holds, IsUntouched, IsUnwritten, ReadInput, WroteOutput, WrotePart, input_limit}
 use Rattle.orca_cli.specs.Working.{HasNone, HasScenario, Input, IsInputFault, WroteOne}
@@ -22,17 +17,6 @@ use Rattle.orca_cli.specs.declared.status.Status.{Status}
 use Rattle.orca_cli.specs.declared.status.Status.TheVariants.{Done, NoMemory, Usage, Refused, ReadFault, WriteFault, TooLong}
 
 -- ---- bytes that stand for a scenario have no cause
-
-at_place : {A : Type 0} (P : A → Type 0) (xs : List A) (k : ℕ) (x : A) → All P xs → slice_get xs k ≡ Some x → P x
-at_place P xs k x all e = subst P (get_or_from_slice_get xs k x x e) (all k x (slice_get_within xs k x e))
-
-accepted_or_refused : (rows : List Record) (scenario : Parts) (index : ℕ) (cause : Cause) → IsAccepted rows scenario → IsRefusedFor rows index cause → ⊥
-accepted_or_refused rows scenario index cause ok (inl e) = cc (ok.read, e)
-accepted_or_refused rows scenario index cause ok (inr on) =
-    let same : scenario ≡ on.scenario = cc (ok.read, on.read) in
-    let clear = subst (λ (s : Parts). AllClear s.agents s.segments) same ok.clear in
-    let o = on.on in
-    o.touched (at_place (IsClear o.agent.pos o.agent.radius) _ _ o.segment (at_place (λ (agent : Agent). All (IsClear agent.pos agent.radius) on.scenario.segments) _ _ o.agent clear o.agent_is) o.segment_is)
 
 not_refused : (bytes : List ℕ) (scenario : Parts) → IsScenarioOf bytes scenario → ¬ IsRefused bytes
 not_refused bytes scenario ok (index, cause, told) = accepted_or_refused (records_of bytes) scenario index cause ok told

@@ -12,3 +12,4 @@ mod SoftNormals
 mod SomeAdvice
 pub mod SomeNext
 pub mod OneValue
+pub mod PresentNext

@@ -6,6 +6,7 @@ use Rattle.fixed_vec.specs.Vector.{plus, zero_vector}
 use Rattle.crowd_data.specs.declared.frame.Body.{Body}
 use Rattle.crowd_data.specs.declared.frame.Mark.{Mark}
 use Rattle.crowd_data.specs.declared.frame.Mark.TheVariants.{Start, Feasible, Fallback, Stopped, Crowded}
+use Rattle.crowd_data.specs.declared.limits.TheConstants.{MOST_AGENTS, MOST_STEPS}
 use Rattle.crowd_data.specs.Run.{IsRun, Snapshot, scripts_of}
 use Rattle.crowd_data.specs.Scenario.{Parts}
 
@@ -32,13 +33,6 @@ abbrev pub sum_of_positions : List Body → V2
 sum_of_positions [] = zero_vector
 sum_of_positions (body ∷ rest) = plus body.pos (sum_of_positions rest)
 
--- the most frames of a run after frame 0, and the most bodies of a frame
-abbrev pub frame_limit : ℕ
-frame_limit = 100000
-
-abbrev pub body_limit : ℕ
-body_limit = 10000
-
 -- how many frames there are, how many of their bodies have each mark, and the greatest relief among these
 pub record Tally : Type 0 where
   pub frames : ℕ
@@ -50,11 +44,11 @@ pub record Tally : Type 0 where
 
 -- no more frames than a run has, and no mark more often than these frames have bodies
 pub record IsWithinLimits (tally : Tally) : Type 0 where
-  pub frames : tally.frames ≤ frame_limit
-  pub feasible : tally.feasible ≤ body_limit * tally.frames
-  pub fallback : tally.fallback ≤ body_limit * tally.frames
-  pub stopped : tally.stopped ≤ body_limit * tally.frames
-  pub crowded : tally.crowded ≤ body_limit * tally.frames
+  pub frames : tally.frames ≤ MOST_STEPS
+  pub feasible : tally.feasible ≤ MOST_AGENTS * tally.frames
+  pub fallback : tally.fallback ≤ MOST_AGENTS * tally.frames
+  pub stopped : tally.stopped ≤ MOST_AGENTS * tally.frames
+  pub crowded : tally.crowded ≤ MOST_AGENTS * tally.frames
 
 -- the bodies of all the frames
 abbrev pub bodies_of : List Snapshot → List Body

@@ -1,7 +1,8 @@
 // What a run's bodies add up to.
 ghost use Rattle.std.specs.Prelude.{◌≡◌, ◌≤◌, ◌<◌, [], ◌∷◌, ◌++◌, List, length};
 ghost use Rattle.crowd_data.specs.Run.{Snapshot, snapshot_of};
-ghost use Rattle.run_summary.specs.Summary.{body_limit, frame_limit, tally_of, with_frame};
+ghost use Rattle.crowd_data.specs.declared.limits.TheConstants.{MOST_AGENTS, MOST_STEPS};
+ghost use Rattle.run_summary.specs.Summary.{tally_of, with_frame};
 
 use crate::counts::{count_of, greatest_relief};
 use crowd_data::{Frame, Mark};
@@ -46,8 +47,8 @@ impl Summary {
 
     /// Takes in one more frame, of at most 10,000 bodies, after fewer than 100,000. It takes no memory.
     pub fn add(&mut self, frame: &Frame)
-        requires frames { self.old.frames < frame_limit }
-        requires bodies { length frame.now.bodies.items ≤ body_limit }
+        requires frames { self.old.frames < MOST_STEPS }
+        requires bodies { length frame.now.bodies.items ≤ MOST_AGENTS }
         ensures counted { self.new ≡ with_frame self.old (snapshot_of frame.now) }
         ensures tally { (frames : List Snapshot) → self.old ≡ tally_of frames → self.new ≡ tally_of (frames ++ snapshot_of frame.now ∷ []) }
     {

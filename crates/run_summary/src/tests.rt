@@ -2,7 +2,7 @@
 ghost use Rattle.std.specs.Prelude.{◌≡◌, [], ◌∷◌, IfOk, ◌≤◌, ◌^◌, All, length};
 ghost use Rattle.fixed_vec.specs.Vector.{IsBelow};
 ghost use Rattle.crowd_data.specs.declared.frame.Body.{Body};
-ghost use Rattle.run_summary.specs.Summary.{body_limit};
+ghost use Rattle.crowd_data.specs.declared.limits.TheConstants.{MOST_AGENTS, MOST_STEPS};
 
 use crate::{Summary, write_summary};
 use crowd_data::{Agent, Body, Frame, Mark, Scenario};
@@ -55,7 +55,7 @@ fn frame_of(
 }
 
 fn scenario_of(alloc: Global, steps: u32) -> Result<Scenario, NoMemory>
-    requires { steps ≤ 100000 }
+    requires { steps ≤ MOST_STEPS }
 {
     let mut agents = List::with_room(alloc, 1)?;
     agents.push(STANDING);
@@ -71,8 +71,8 @@ fn scenario_of(alloc: Global, steps: u32) -> Result<Scenario, NoMemory>
 // The callers learn nothing of these helpers, so that no proof computes on the text.
 
 fn text_of(alloc: Global, steps: u32, summary: &Summary, last: &Frame) -> Result<MemSink, Fail>
-    requires steps { steps ≤ 100000 }
-    requires few { length last.now.bodies.items ≤ body_limit }
+    requires steps { steps ≤ MOST_STEPS }
+    requires few { length last.now.bodies.items ≤ MOST_AGENTS }
     requires small { All (λ (body : Body). IsBelow body.pos (2 ^ 31)) last.now.bodies.items }
 {
     let scenario = scenario_of(alloc, steps)?;
@@ -82,8 +82,8 @@ fn text_of(alloc: Global, steps: u32, summary: &Summary, last: &Frame) -> Result
 }
 
 fn text_of_two(alloc: Global, first: &Frame, last: &Frame) -> Result<MemSink, Fail>
-    requires few_first { length first.now.bodies.items ≤ body_limit }
-    requires few_last { length last.now.bodies.items ≤ body_limit }
+    requires few_first { length first.now.bodies.items ≤ MOST_AGENTS }
+    requires few_last { length last.now.bodies.items ≤ MOST_AGENTS }
     requires small { All (λ (body : Body). IsBelow body.pos (2 ^ 31)) last.now.bodies.items }
 {
     let mut summary = Summary::empty();

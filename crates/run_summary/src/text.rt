@@ -5,7 +5,8 @@ ghost use Rattle.outside_io.specs.Causes.{HasCause, Wrote};
 ghost use Rattle.fixed_vec.specs.Vector.{IsBelow};
 ghost use Rattle.crowd_data.specs.Run.{snapshot_of};
 ghost use Rattle.crowd_data.specs.declared.frame.Body.{Body};
-ghost use Rattle.run_summary.specs.Summary.{body_limit, line_of};
+ghost use Rattle.crowd_data.specs.declared.limits.TheConstants.{MOST_AGENTS};
+ghost use Rattle.run_summary.specs.Summary.{line_of};
 
 use crate::positions::sum_of_positions;
 use crate::summary::Summary;
@@ -34,7 +35,7 @@ pub fn write_summary<T: Sink>(
     summary: &Summary,
     last: &Frame,
 ) -> Result<(), Failed>
-    requires few { length last.now.bodies.items ≤ body_limit }
+    requires few { length last.now.bodies.items ≤ MOST_AGENTS }
     requires small { All (λ (body : Body). IsBelow body.pos (2 ^ 31)) last.now.bodies.items }
     ensures text { Wrote (T.held out.old) (T.held out.new) result (line_of scenario.now summary.now (snapshot_of last.now)) }
     ensures cause { HasCause (T.faults out.old) (T.faults out.new) result }

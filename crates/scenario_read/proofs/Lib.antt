@@ -5,3 +5,4 @@ mod ScenarioRecords
 mod PostOrder
 mod GeneratedParts
 mod GeneratedSteps
+pub mod OneOutcome

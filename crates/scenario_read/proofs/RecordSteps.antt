@@ -1,5 +1,5 @@
 -- How the records of a text come one at a time.
-use Rattle.std.proofs.Common.{◌≡◌, ◌<◌, ◌≤◌, ◌+◌, ◌-◌, ◌⊎◌, ℕ, zero, suc, List, [], ◌∷◌, length, Bool, true, false, cond, Some, None, refl, ap, inl, inr, arith, add-one}
+use Rattle.std.proofs.Common.{◌≡◌, ◌<◌, ◌≤◌, ◌+◌, ◌-◌, ℕ, zero, suc, List, [], ◌∷◌, length, Bool, true, false, cond, Some, None, refl, ap, inl, inr, arith, add-one}
 use Rattle.std.specs.Prelude.{◌==◌, ◌||◌}
 use Rattle.std.specs.declared.option.Option.{Option}
 use Rattle.csv.specs.Machine.{Read, in_field, start_field, start_record, step, is_end, ends_at_end, next_record, fields_after, field_after}
@@ -12,11 +12,9 @@ use Rattle.csv.specs.declared.parser.State.TheVariants as st
 use Rattle.csv.specs.declared.parser.Action.{Action}
 use Rattle.csv.specs.declared.parser.Action.TheVariants as act
 use Rattle.csv.proofs.ReadFacts.{rows-end, rows-more}
+use Rattle.std.proofs.lemmas.Option.{same_Some}
+use Rattle.exact_algebra.proofs.Choices.{chosen}
 use Rattle.scenario_read.specs.Records.{records_after}
-
-chosen : {A : Type 0} (b : Bool) (x y z : A) → cond b x y ≡ z → ((b ≡ true) × (x ≡ z)) ⊎ ((b ≡ false) × (y ≡ z))
-chosen true x y z e = inl (refl, e)
-chosen false x y z e = inr (refl, e)
 
 -- ---- a record ends between records
 
@@ -61,28 +59,25 @@ step_safe st.AfterCr c = safe_if (c == 10) (skips st.StartRecord) (start_record_
 
 -- ---- what one record takes
 
-some_is : {A : Type 0} (x y : A) → Some x ≡ Some y → x ≡ y
-some_is x y e = cc e
-
 between : (s : State) (fields : List (List ℕ)) (field xs : List ℕ) (p : Read) → next_record default_config s fields field xs ≡ Some p → ends_at_end p.1 ≡ false
 unfolding next_record
 between s fields field [] p e = elim (chosen (ends_at_end s) _ _ _ e) [
-  | inl h ↦ rw (← some_is _ _ h.1) refl
+  | inl h ↦ rw (← same_Some _ _ h.1) refl
   | inr h ↦ cc h.1
 ]
 between s fields field (c ∷ rest) p e = elim (chosen (is_end (step default_config s c).1) _ _ _ e) [
-  | inl h ↦ rw (← some_is _ _ h.1) ((step_safe s c).at_end h.0)
+  | inl h ↦ rw (← same_Some _ _ h.1) ((step_safe s c).at_end h.0)
   | inr h ↦ between (step default_config s c).0 (fields_after (step default_config s c).1 fields field) (field_after (step default_config s c).1 c field) rest p h.1
 ]
 
 shorter : (s : State) (fields : List (List ℕ)) (field xs : List ℕ) (p : Read) → next_record default_config s fields field xs ≡ Some p → length p.2 ≤ length xs - 1
 unfolding next_record
 shorter s fields field [] p e = elim (chosen (ends_at_end s) _ _ _ e) [
-  | inl h ↦ rw (← some_is _ _ h.1) (omega arith)
+  | inl h ↦ rw (← same_Some _ _ h.1) (omega arith)
   | inr h ↦ cc h.1
 ]
 shorter s fields field (c ∷ rest) p e = elim (chosen (is_end (step default_config s c).1) _ _ _ e) [
-  | inl h ↦ rw (← some_is _ _ h.1) (omega arith)
+  | inl h ↦ rw (← same_Some _ _ h.1) (omega arith)
   | inr h ↦ let less = shorter (step default_config s c).0 (fields_after (step default_config s c).1 fields field) (field_after (step default_config s c).1 c field) rest p h.1 in omega arith
 ]
 

@@ -1,8 +1,7 @@
 -- The laws of pairs.
 use Rattle.std.proofs.Common.{◌≡◌, ℕ, refl, [], ◌∷◌, Bool, true, false, cond, sym, subst, ap, arith, ℤ, pos, neg_ℤ, ◌+ℤ◌, ◌-ℤ◌, ◌*ℤ◌, ◌≤ℤ◌, ◌<ℤ◌, unsigned_abs}
 use Rattle.std.proofs.lemmas.Int.{ints}
-use Rattle.std.specs.Prelude.{int_lt, ◌&&◌}
-use Rattle.std.specs.Ordering.{int_eq}
+use Rattle.std.specs.Prelude.{int_lt}
 use Rattle.exact_algebra.proofs.Order.{square_nonneg, sum_nonneg}
 use Rattle.exact_algebra.proofs.Ring.{equal, quotes}
 use Rattle.exact_algebra.proofs.Rounding.{ceil_root_reaches, floor_root_le}
@@ -14,7 +13,7 @@ use Rattle.fixed_vec.specs.Point.{IsIn, whole}
 use Rattle.crowd_data.specs.declared.pair.Disc.{Disc}
 use Rattle.crowd_data.specs.declared.pair.Region.{Region}
 use Rattle.crowd_data.specs.declared.pair.Region.TheVariants.{Arc, Left, Right, Overlap}
-use Rattle.crowd_data.specs.Pairs.{IsPair, from_cutoff, higher_share, is_arc, combined_radius, leg_length, lower_share, relative_position, overlap_normal, region_of, relative_in, relative_plane, relative_velocity}
+use Rattle.crowd_data.specs.Pairs.{IsPair, from_cutoff, higher_share, is_arc, combined_radius, leg_length, lower_share, relative_position, overlap_normal, region_of, relative_in, relative_plane}
 use Rattle.crowd_data.specs.Safety.{ApartThroughout, IsApart}
 use Rattle.crowd_data.proofs.PairNormals.{overlap_normal-nonzero}
 use Rattle.separation_law.proofs.Borders.{arc_way, leg_way, overlap_end}
@@ -35,7 +34,7 @@ region_apart low high tau P apart arc left right =
     by false f false = right
 
 -- a whole velocity in a half-plane
-along_plane : (plane : Plane) (v : V2) → IsIn plane (whole v) → plane.c ≤ℤ dot plane.n v
+pub along_plane : (plane : Plane) (v : V2) → IsIn plane (whole v) → plane.c ≤ℤ dot plane.n v
 along_plane plane v inside = omega (arith, ints)
 
 pub length_reaches : (n : V2) → square n ≤ℤ (pos (whole_length n) *ℤ pos (whole_length n))

@@ -7,7 +7,7 @@ use Rattle.exact_algebra.proofs.Order.{product_nonneg, gap_nonneg}
 use Rattle.exact_algebra.proofs.Sizes.{product_positive}
 use Rattle.fixed_vec.specs.declared.vector.V2.{V2}
 use Rattle.fixed_vec.specs.Vector.{cross, dot, minus, opposite, perp, square, zero_vector}
-use Rattle.fixed_vec.specs.HalfPlane.{Plane, whole_length}
+use Rattle.fixed_vec.specs.HalfPlane.{whole_length}
 use Rattle.fixed_vec.specs.Point.{IsIn, whole}
 use Rattle.crowd_data.specs.declared.agent.Agent.{Agent}
 use Rattle.crowd_data.specs.declared.segment.Segment.{Segment}
@@ -16,7 +16,7 @@ use Rattle.crowd_data.specs.Walls.{IsClear, in_reach, normal_beside, plane_from,
 use Rattle.crowd_data.proofs.ClearOfSegment.{beside_is, clear_end, clear_start, square_some}
 use Rattle.crowd_data.proofs.WallCases.{normal_elim, wall_elim}
 use Rattle.separation_law.specs.Respecting.{Respects, StaysOffFor}
-use Rattle.separation_law.proofs.Pairs.{length_reaches}
+use Rattle.separation_law.proofs.Pairs.{along_plane, length_reaches}
 use Rattle.separation_law.proofs.WallWays.{IsBorder, border_off, reach_off, rest_off, slower_off}
 
 -- ---- the borders of the three cases
@@ -88,9 +88,6 @@ module _ (at : V2) (s : Segment) (R : ℤ) where
 
 -- ---- the three ways to respect a segment
 
-whole_in : (plane : Plane) (v : V2) → IsIn plane (whole v) → plane.c ≤ℤ dot plane.n v
-whole_in plane v h = omega (arith, ints, h)
-
 le_holds : (a b : ℤ) → a ≤ℤ b → int_le a b ≡ true
 le_holds a b h = grind (arith, ints)
 
@@ -101,7 +98,7 @@ module _ (at : V2) (agent : Agent) (s : Segment) (v : V2) (some_radius : 1 ≤ a
   plane_off : (n q : V2) → IsBorder (minus at s.a) (minus s.b s.a) (pos agent.radius) n (minus q at) → IsIn (plane_from n q at agent) (whole v) → StaysOffFor at agent s v
   plane_off n q border inside k m j i hk hm hm0 hj hi hi0 =
       border_off (minus at s.a) (minus s.b s.a) n (minus q at) v (pos agent.radius) (pos (whole_length n)) (pos agent.wall_horizon) k m j i border
-      (omega (arith, ints)) (omega (arith, ints)) (omega (arith, ints)) (length_reaches n) (whole_in (plane_from n q at agent) v inside) hk hm hj hi
+      (omega (arith, ints)) (omega (arith, ints)) (omega (arith, ints)) (length_reaches n) (along_plane (plane_from n q at agent) v inside) hk hm hj hi
 
   -- in reach, with the wall plane
   wall_off : IsClear at agent.radius s → IsIn (wall_plane at agent s) (whole v) → StaysOffFor at agent s v

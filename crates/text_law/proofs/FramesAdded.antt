@@ -1,8 +1,7 @@
 -- The rows of frames are added one after another, and make up these frames.
 use Rattle.std.proofs.Common.{◌≡◌, ◌∙◌, ◌<◌, ◌≤◌, ◌+◌, ◌-◌, ap, sym, refl, ℕ, zero, suc, true, false, List, [], ◌∷◌, ◌++◌, length, map, flat_map, append_assoc, length-append, subst, arith, Some, Ok}
-use Rattle.std.specs.Prelude.{◌==◌, nat_lt, nat_le, Result}
+use Rattle.std.specs.Prelude.{Result}
 use Rattle.std.specs.List.{All}
-use Rattle.std.proofs.lemmas.Bool.Decides.{nat_tests}
 use Rattle.std.proofs.lemmas.List.{append-nil}
 use Rattle.std.proofs.lemmas.List.Elements.{All-head, All-tail}
 use Rattle.csv.specs.Records.{field_at}
@@ -13,22 +12,8 @@ use Rattle.frame_text.specs.Shape.{FramesSoFar, PostedFrame, all_frames, frames_
 use Rattle.frame_text.specs.Shaped.{AreBodies, AreFrames, IsPrintedBody, IsPrintedPost, IsPostedFrame}
 use Rattle.frame_text.specs.Spelling.{last_behind}
 use Rattle.scenario_read.specs.Records.{Record}
+use Rattle.text_law.proofs.Comparisons.{is_at_most, is_equal, is_less, not_less, not_zero}
 use Rattle.text_law.proofs.FrameLines.{body_is, body_row, end_number_is, end_row, frame_number_is, frame_row, take_is, take_row}
-
-is_less : (a b : ℕ) → a < b → nat_lt a b ≡ true
-is_less a b h = grind (arith, nat_tests)
-
-is_at_most : (a b : ℕ) → a ≤ b → nat_le a b ≡ true
-is_at_most a b h = grind (arith, nat_tests)
-
-not_less : (a b : ℕ) → b ≤ a → nat_lt a b ≡ false
-not_less a b h = grind (arith, nat_tests)
-
-is_equal : (a b : ℕ) → a ≡ b → (a == b) ≡ true
-is_equal a b h = grind (arith, nat_tests)
-
-not_zero : (n : ℕ) → (n + 1 == 0) ≡ false
-not_zero n = grind (arith, nat_tests)
 
 -- the rows of a frame
 abbrev pub frame_rows : PostedFrame → List Record

@@ -10,3 +10,6 @@ mod FramesAdded
 mod TranscriptRead
 mod OnlyMemory
 pub mod TranscriptText
+pub mod Comparisons
+mod RunFrames
+mod RunText

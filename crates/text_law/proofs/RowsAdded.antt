@@ -1,8 +1,6 @@
 -- The rows of a scenario are added one after another, and make up that scenario.
-use Rattle.std.proofs.Common.{◌≡◌, ◌≢◌, ◌<◌, ◌≤◌, ◌+◌, sym, refl, ℕ, true, false, List, [], ◌∷◌, ◌++◌, length, map, append_assoc, subst, arith, Some, Ok}
-use Rattle.std.specs.Prelude.{nat_le, nat_lt}
+use Rattle.std.proofs.Common.{◌≡◌, ◌≢◌, ◌<◌, ◌≤◌, ◌+◌, sym, refl, ℕ, true, List, [], ◌∷◌, ◌++◌, length, map, append_assoc, subst, arith, Some, Ok}
 use Rattle.std.specs.List.{All, AllPairs}
-use Rattle.std.proofs.lemmas.Bool.Decides.{nat_tests}
 use Rattle.std.proofs.lemmas.List.{append-nil}
 use Rattle.csv.specs.Records.{field_at}
 use Rattle.crowd_data.specs.declared.agent.Agent.{Agent}
@@ -14,20 +12,12 @@ use Rattle.crowd_data.specs.Scenario.{IsValid, Parts}
 use Rattle.scenario_read.specs.Read.{Read, nothing_read}
 use Rattle.scenario_read.specs.Reading.{ended, outcome, outcome_from, with_kind, with_record}
 use Rattle.scenario_read.specs.Records.{Record}
+use Rattle.text_law.proofs.Comparisons.{is_less, not_at_most, not_less}
 use Rattle.text_law.proofs.Lines.{agent_row, goal_row, header_row, post_row, segment_row, steps_row}
 use Rattle.text_law.proofs.Prefixes.{next_is_only, next_keeps_order, next_one, some_more}
 use Rattle.text_law.proofs.Values.{agent_is, goal_is, post_is, segment_is, steps_is}
 
 -- ---- rows one after another
-
-is_less : (a b : ℕ) → a < b → nat_lt a b ≡ true
-is_less a b h = grind (arith, nat_tests)
-
-not_less : (a b : ℕ) → a ≤ b → nat_lt b a ≡ false
-not_less a b h = grind (arith, nat_tests)
-
-not_above : (a b : ℕ) → a < b → nat_le b a ≡ false
-not_above a b h = grind (arith, nat_tests)
 
 -- one more row that is added
 outcome_more : (p q : Read) (k : ℕ) (row : Record) (rest : List Record) (s : Parts) → with_record p row ≡ Ok q → outcome_from q (k + 1) rest ≡ Ok s → outcome_from p k (row ∷ rest) ≡ Ok s
@@ -89,8 +79,8 @@ post_added n agents segments done p later few_steps few_agents fit =
     rw (
       post_is n (length agents) few_steps few_agents p is_fit,
       is_less (length done) 100000 room,
-      not_less p.frame n is_fit.frame,
-      not_above p.agent (length agents) is_fit.agent,
+      not_less n p.frame is_fit.frame,
+      not_at_most (length agents) p.agent is_fit.agent,
       next_keeps_order done p later fit.order,
     ) refl
 
@@ -104,7 +94,7 @@ goal_added : (n : ℕ) (agents : List Agent) (segments : List Segment) (posts : 
 unfolding with_record with_kind field_at
 goal_added n agents segments posts done g later few_agents fit =
     let is_fit = next_one done g later (IsGoal (length agents)) fit.each in
-    rw (goal_is (length agents) few_agents g is_fit, not_above g.agent (length agents) is_fit.agent, next_is_only done g later fit.one_goal) refl
+    rw (goal_is (length agents) few_agents g is_fit, not_at_most (length agents) g.agent is_fit.agent, next_is_only done g later fit.one_goal) refl
 
 -- ---- the rows of a scenario
 

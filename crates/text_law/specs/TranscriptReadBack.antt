@@ -1,5 +1,5 @@
 -- The text of a transcript reads back as its parts.
-use Rattle.std.specs.Prelude.{◌≡◌, List, [], ◌∷◌, map}
+use Rattle.std.specs.Prelude.{◌≡◌, ℕ, List, [], ◌∷◌, map}
 use Rattle.crowd_data.specs.Scenario.{IsValid, Parts}
 use Rattle.frame_text.specs.declared.cause.TranscriptFault.{TranscriptFault}
 use Rattle.frame_text.specs.declared.cause.TranscriptFault.TheVariants.{NoMemory}
@@ -9,13 +9,13 @@ use Rattle.frame_text.specs.Shaped.{IsShaped}
 use Rattle.frame_text.specs.Spelling.{text_of}
 use Rattle.frame_text.specs.Transcript.{transcript_text}
 
--- it is read as these parts, and it has no fault but that memory ran out
-pub record TextReadsBack (s : Parts) (frames : List PostedFrame) : Type 0 where
-  pub read : IsRead (text_of s frames) s frames
-  pub no_cause : (fault : TranscriptFault) → HasTranscriptFault (text_of s frames) fault → fault ≡ NoMemory
+-- a text is read as these parts, and it has no fault but that memory ran out
+pub record IsReadAs (text : List ℕ) (s : Parts) (frames : List PostedFrame) : Type 0 where
+  pub read : IsRead text s frames
+  pub no_cause : (fault : TranscriptFault) → HasTranscriptFault text fault → fault ≡ NoMemory
 
 abbrev pub TranscriptReadsBack : Parts → List PostedFrame → Type 0
-TranscriptReadsBack s frames = IsValid s → IsShaped s frames → TextReadsBack s frames
+TranscriptReadsBack s frames = IsValid s → IsShaped s frames → IsReadAs (text_of s frames) s frames
 
 -- it is the transcript's text, where frame 0 has no posts
 abbrev pub IsTranscriptText : Parts → List PostedFrame → Type 0

@@ -1,5 +1,5 @@
-// The law is called once, and the text of a scenario with posts and goals is read and written again.
-use crate::reads_back;
+// Each law is called once, and the text of a scenario with posts and goals is read and written again.
+use crate::{one_transcript, reads_back, transcript_reads_back, transcripts_are_accepted};
 use crowd_data::Scenario;
 use fixed_vec::List;
 use frame_text::write_scenario;
@@ -9,7 +9,7 @@ use std::alloc::Global;
 use std::test::Fail;
 
 #[test]
-fn law_of_the_smallest_scenario(rt: HostRuntime) -> Result<(), Fail> {
+fn laws_of_the_smallest_scenario(rt: HostRuntime) -> Result<(), Fail> {
     let scenario = Scenario::of(
         0,
         List::with_room(rt.alloc(), 0)?,
@@ -18,6 +18,9 @@ fn law_of_the_smallest_scenario(rt: HostRuntime) -> Result<(), Fail> {
         List::with_room(rt.alloc(), 0)?,
     );
     reads_back(&scenario);
+    transcript_reads_back(&scenario, &[]);
+    one_transcript(&scenario);
+    transcripts_are_accepted(&scenario);
     Ok(())
 }
 

@@ -2,7 +2,8 @@ use Rattle.std.proofs.Common.{◌∙◌, sym}
 use Rattle.fixed_vec.specs.HalfPlane.{drawn_of}
 use Rattle.crowd_data.specs.Pairs.{higher_share, lower_share}
 use Rattle.crowd_data.specs.Run.{crowd_of}
-use Rattle.agent_step.proofs.SoftPlanes.{higher_against, higher_horizon, higher_pair, lower_against, lower_horizon, lower_pair, there}
+use Rattle.crowd_data.proofs.Shares.{higher_against, lower_against}
+use Rattle.agent_step.proofs.SoftPlanes.{higher_horizon, higher_pair, lower_horizon, lower_pair, there}
 use Rattle.agent_step.proofs.soft.share.Goals as goal
 
 pub disc-others-requires-clause-who : goal.disc-others-requires-clause-who
