@@ -189,10 +189,11 @@ fn are_counts(steps: u32, agents: usize, segments: usize, posts: usize) -> bool
         && posts <= MOST_POSTS as usize
 }
 
-/// Whether these are the parts of a scenario: the version is 1 or 2 and the ring 36 or 60, every number and
-/// count is within its limits, version 1 has the ring 36 and each weight 1, each post's frame is from 1 to the steps, frames of posts never fall, each agent named exists, no agent has two
-/// goals, and each agent is clear of each segment. It takes no memory. Its time grows with the count of
-/// agents times that of segments, and with the other counts alone.
+/// Whether these are the parts of a scenario: the version is 1 or 2, the ring 36 or 60, every number and count
+/// within its limits, and in version 1 the ring is 36 and each weight 1; each post's frame is from 1 to the
+/// steps, frames of posts never fall, each agent named exists, no agent has two goals, and each agent is clear
+/// of each segment. It takes no memory. Its time grows with the count of agents times that of segments, and
+/// with the other counts alone.
 pub fn valid(
     version: u32,
     ring: u32,
