@@ -33,6 +33,7 @@ standing_build agent body h = record {
   horizon = h.horizon;
   some_wall_horizon = h.some_wall_horizon;
   wall_horizon = h.wall_horizon;
+  weight = h.weight;
 }
 
 -- ---- places

@@ -1,5 +1,5 @@
 -- The definitions on numbers worked out by hand.
-use Rattle.std.proofs.Common.{◌≡◌, List, [], ◌∷◌, ℕ, refl, arith, pos, negsuc}
+use Rattle.std.proofs.Common.{◌≡◌, List, [], ◌∷◌, ℕ, length, refl, arith, pos, negsuc}
 use Rattle.exact_algebra.proofs.Rounding.{ceil_root_between}
 use Rattle.fixed_vec.specs.declared.vector.V2.{V2}
 use Rattle.fixed_vec.specs.Vector.{zero_vector}
@@ -10,6 +10,8 @@ use Rattle.crowd_data.specs.declared.post.Goal.{Goal}
 use Rattle.crowd_data.specs.declared.post.Post.{Post}
 use Rattle.crowd_data.specs.Headings.{heading}
 use Rattle.crowd_data.specs.Neighbours.{IsNear, neighbours}
+use Rattle.crowd_data.specs.Pairs.{part_of}
+use Rattle.crowd_data.specs.RingPlanes.{edge_plane, ring_points, ring_radius}
 use Rattle.crowd_data.specs.Run.{after_posts, script_of}
 
 abbrev at : ℕ → ℕ → V2
@@ -62,6 +64,34 @@ near = omega arith
 not_near : ¬ IsNear (place zero_vector) (place (at 0 1801))
 not_near h = omega (arith, h)
 
+-- ---- weights
+
+-- three parts of four
+heavier : part_of (pos 1000) 3 1 ≡ pos 750
+heavier = refl
+
+-- an odd lack's half is rounded up, also where nothing is lacking
+half_up : part_of (pos 7) 1 1 ≡ pos 4
+half_up = refl
+
+half_of_room : part_of (negsuc 6) 5 5 ≡ negsuc 2
+half_of_room = refl
+
+lightest : part_of (pos 1000) 1 16 ≡ pos 59
+lightest = refl
+
+-- ---- rings
+
+plain_count : length (ring_points 36) ≡ 36
+plain_count = refl
+
+fine_count : length (ring_points 60) ≡ 60
+fine_count = refl
+
+-- the first edge of the fine ring, at its own distance
+fine_edge : edge_plane (ring_radius 60) 325 (at 325 0) (at 323 36) ≡ record { n = record { x = negsuc 35; y = negsuc 1 }; c = negsuc 11699 }
+fine_edge = refl
+
 -- ---- posts
 
 abbrev resting : Body
@@ -75,6 +105,6 @@ last_wins : after_posts (set_to 0 (at 100 0) ∷ set_to 1 (at 0 100) ∷ []) (re
 last_wins = refl
 
 -- a scripted post has its place among all posts of the scenario as seq
-scripted : script_of (record { steps = 5; agents = []; segments = []; posts = record { frame = 2; agent = 0; vel = at 1 0 } ∷ record { frame = 3; agent = 0; vel = at 2 0 } ∷ []; goals = [] }) 3
+scripted : script_of (record { version = 1; ring = 36; steps = 5; agents = []; segments = []; posts = record { frame = 2; agent = 0; vel = at 1 0 } ∷ record { frame = 3; agent = 0; vel = at 2 0 } ∷ []; goals = [] }) 3
     ≡ set_to 1 (at 2 0) ∷ []
 scripted = refl

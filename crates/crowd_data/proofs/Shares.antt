@@ -16,10 +16,10 @@ second_drawn t x y e = ap (λ b. drawn_of (cond b x y)) e
 
 pub lower_against : (crowd : List Agent) (who other : ℕ) → who < other
     → share_against crowd who other
-    ≡ drawn_of (lower_share (disc_of (agent_at crowd who)) (disc_of (agent_at crowd other)) (min (agent_at crowd who).horizon (agent_at crowd other).horizon))
+    ≡ drawn_of (lower_share (disc_of (agent_at crowd who)) (disc_of (agent_at crowd other)) (min (agent_at crowd who).horizon (agent_at crowd other).horizon) (agent_at crowd who).weight (agent_at crowd other).weight)
 lower_against crowd who other h = first_drawn (ltb who other) _ _ (lt-ltb who other h)
 
 pub higher_against : (crowd : List Agent) (who other : ℕ) → other ≤ who
     → share_against crowd who other
-    ≡ drawn_of (higher_share (disc_of (agent_at crowd other)) (disc_of (agent_at crowd who)) (min (agent_at crowd other).horizon (agent_at crowd who).horizon))
+    ≡ drawn_of (higher_share (disc_of (agent_at crowd other)) (disc_of (agent_at crowd who)) (min (agent_at crowd other).horizon (agent_at crowd who).horizon) (agent_at crowd other).weight (agent_at crowd who).weight)
 higher_against crowd who other h = second_drawn (ltb who other) _ _ (le-ltb who other h)

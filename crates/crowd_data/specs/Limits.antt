@@ -1,11 +1,25 @@
 -- The limits of a scenario's numbers. All are inclusive.
-use Rattle.std.specs.Prelude.{ℕ, ◌<◌, ◌≤◌, unsigned_abs}
+use Rattle.std.specs.Prelude.{◌≡◌, ◌⊎◌, ℕ, ◌<◌, ◌≤◌, unsigned_abs}
 use Rattle.fixed_vec.specs.declared.vector.V2.{V2}
 use Rattle.crowd_data.specs.declared.agent.Agent.{Agent}
 use Rattle.crowd_data.specs.declared.segment.Segment.{Segment}
 use Rattle.crowd_data.specs.declared.post.ScriptPost.{ScriptPost}
 use Rattle.crowd_data.specs.declared.post.Goal.{Goal}
 use Rattle.crowd_data.specs.declared.post.Post.{Post}
+
+-- the versions of scenarios
+abbrev pub IsVersion : ℕ → Type 0
+IsVersion version = (version ≡ 1) ⊎ (version ≡ 2)
+
+-- the rings of speed polygons, by their counts of points
+abbrev pub plain_ring : ℕ
+plain_ring = 36
+
+abbrev pub fine_ring : ℕ
+fine_ring = 60
+
+abbrev pub IsRing : ℕ → Type 0
+IsRing ring = (ring ≡ plain_ring) ⊎ (ring ≡ fine_ring)
 
 -- each coordinate is at most so large in size
 abbrev pub IsWithin : V2 → ℕ → Type 0
@@ -19,7 +33,11 @@ IsPosition v = IsWithin v 4194304
 abbrev pub IsVelocity : V2 → Type 0
 IsVelocity v = IsWithin v 16384
 
--- an agent's sizes, speed and look-out, wherever it is
+-- the weight by which an agent gives way
+abbrev pub IsWeight : ℕ → Type 0
+IsWeight weight = (1 ≤ weight) × (weight ≤ 16)
+
+-- an agent's sizes, speed, look-out and weight, wherever it is
 pub record IsBuild (agent : Agent) : Type 0 where
   pub some_radius : 1 ≤ agent.radius
   pub radius : agent.radius ≤ 32768
@@ -30,6 +48,7 @@ pub record IsBuild (agent : Agent) : Type 0 where
   pub horizon : agent.horizon ≤ 4096
   pub some_wall_horizon : 1 ≤ agent.wall_horizon
   pub wall_horizon : agent.wall_horizon ≤ 4096
+  pub weight : IsWeight agent.weight
 
 -- an agent of a scenario
 pub record IsAgent (agent : Agent) : Type 0 where

@@ -95,18 +95,22 @@ relative_plane low high tau = relative_in low high tau (region_of low high tau)
 abbrev pub lack : Disc → Disc → ℕ → ℤ
 lack low high tau = (relative_plane low high tau).c -ℤ dot (relative_plane low high tau).n (relative_velocity low high)
 
--- the half-plane of the lower agent: it makes up half of what is lacking, rounded up
-abbrev pub lower_share : Disc → Disc → ℕ → Plane
-lower_share low high tau =
+-- of what is lacking, the part of the agent with the weight a, the other one's being b; rounded up
+abbrev pub part_of : ℤ → ℕ → ℕ → ℤ
+part_of g a b = ceil (g *ℤ pos a) (pos (a + b))
+
+-- the half-plane of the lower agent: it makes up its part of what is lacking, by the weights of both
+abbrev pub lower_share : Disc → Disc → ℕ → ℕ → ℕ → Plane
+lower_share low high tau low_weight high_weight =
     record {
       n = (relative_plane low high tau).n;
-      c = dot (relative_plane low high tau).n low.vel +ℤ ceil (lack low high tau) (pos 2);
+      c = dot (relative_plane low high tau).n low.vel +ℤ part_of (lack low high tau) low_weight high_weight;
     }
 
 -- the half-plane of the higher agent: it makes up the rest
-abbrev pub higher_share : Disc → Disc → ℕ → Plane
-higher_share low high tau =
+abbrev pub higher_share : Disc → Disc → ℕ → ℕ → ℕ → Plane
+higher_share low high tau low_weight high_weight =
     record {
       n = opposite (relative_plane low high tau).n;
-      c = neg_ℤ (dot (relative_plane low high tau).n high.vel) +ℤ (lack low high tau -ℤ ceil (lack low high tau) (pos 2));
+      c = neg_ℤ (dot (relative_plane low high tau).n high.vel) +ℤ (lack low high tau -ℤ part_of (lack low high tau) low_weight high_weight);
     }

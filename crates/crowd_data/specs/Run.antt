@@ -68,7 +68,7 @@ moved_body vel mark relief body = record body { pos = plus body.pos vel; vel = v
 pub record IsMoved (scenario : Parts) (crowd : List Agent) (who : ℕ) (before after : Body) : Type 0 where
   pub agent : after.agent ≡ before.agent
   pub pref : after.pref ≡ before.pref
-  pub advice : IsAdvice scenario.segments crowd who after.vel after.mark after.relief
+  pub advice : IsAdvice scenario crowd who after.vel after.mark after.relief
   pub pos : after.pos ≡ plus before.pos after.vel
 
 -- the next frame: the posts are taken in, then every advice is taken from that one frozen state, then

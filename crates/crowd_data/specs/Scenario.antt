@@ -1,24 +1,34 @@
 -- A scenario: its parts, and when they are valid.
-use Rattle.std.specs.Prelude.{◌≢◌, ℕ, ◌+◌, ◌≤◌, max, List, [], ◌∷◌, length, AllPairs}
+use Rattle.std.specs.Prelude.{◌≡◌, ◌≢◌, ℕ, ◌+◌, ◌≤◌, max, List, [], ◌∷◌, length, AllPairs}
 use Rattle.std.specs.List.{All}
 use Rattle.crowd_data.specs.declared.agent.Agent.{Agent}
 use Rattle.crowd_data.specs.declared.segment.Segment.{Segment}
 use Rattle.crowd_data.specs.declared.post.ScriptPost.{ScriptPost}
 use Rattle.crowd_data.specs.declared.post.Goal.{Goal}
-use Rattle.crowd_data.specs.Limits.{IsAgent, IsGoal, IsScriptPost, IsSegment}
+use Rattle.crowd_data.specs.Limits.{IsAgent, IsGoal, IsRing, IsScriptPost, IsSegment, IsVersion, plain_ring}
 use Rattle.crowd_data.specs.Walls.{IsClear}
 
 -- what a scenario consists of
 pub record Parts : Type 0 where
+  pub version : ℕ
+  pub ring : ℕ
   pub steps : ℕ
   pub agents : List Agent
   pub segments : List Segment
   pub posts : List ScriptPost
   pub goals : List Goal
 
--- the parts make up a scenario: every number and count is within its limits, frames of posts never
--- fall, agents that are named exist, no agent has two goals, and every agent is clear of every segment
+-- what version 1 knows of: the plain ring, and no weight but 1
+pub record HasPlainParts (ring : ℕ) (agents : List Agent) : Type 0 where
+  pub ring_is : ring ≡ plain_ring
+  pub weights : All (λ (agent : Agent). agent.weight ≡ 1) agents
+
+-- the parts make up a scenario: every number and count is within its limits, version 1 has nothing that is
+-- new in version 2, frames of posts never fall, agents that are named exist, no agent has two goals, and every agent is clear of every segment
 pub record IsValid (s : Parts) : Type 0 where
+  pub version : IsVersion s.version
+  pub ring : IsRing s.ring
+  pub plain : s.version ≡ 1 → HasPlainParts s.ring s.agents
   pub steps : s.steps ≤ 100000
   pub agent_count : length s.agents ≤ 10000
   pub segment_count : length s.segments ≤ 2000

@@ -23,4 +23,7 @@ pub struct Agent {
     pub horizon: u32,
     /// The time horizon for segments in steps, 1 to 4,096.
     pub wall_horizon: u32,
+    /// The weight, 1 to 16: of what a pair has to make up, a heavier agent makes up more. Each is 1 in
+    /// version 1.
+    pub weight: u32,
 }

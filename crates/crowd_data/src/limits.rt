@@ -1,5 +1,17 @@
 // The limits of a scenario's numbers and counts. All are inclusive.
 
+/// The first version of scenarios: agents without weights, and the plain ring.
+pub const FIRST_VERSION: u32 = 1;
+
+/// The latest version of scenarios.
+pub const LATEST_VERSION: u32 = 2;
+
+/// How many points the plain ring has.
+pub const PLAIN_RING: u32 = 36;
+
+/// How many points the fine ring has.
+pub const FINE_RING: u32 = 60;
+
 /// The most steps of a run.
 pub const MOST_STEPS: u32 = 100_000;
 
@@ -35,3 +47,6 @@ pub const MOST_NEIGHBOURS: u32 = 64;
 
 /// The greatest time horizon in steps; the least is 1.
 pub const GREATEST_HORIZON: u32 = 4_096;
+
+/// The greatest weight of an agent; the least is 1.
+pub const GREATEST_WEIGHT: u32 = 16;

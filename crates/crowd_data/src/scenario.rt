@@ -9,11 +9,14 @@ use crate::segment::Segment;
 use fixed_vec::List;
 use std::marker::Model;
 
-/// What a run is made from: steps, agents, segments, scripted posts and goals. Its type keeps that they
-/// are valid: every number and count is within its limits, the frames of the posts never fall, each
-/// agent named exists, no agent has two goals, and each agent is clear of each segment.
+/// What a run is made from: a version, the ring of the speed polygons, steps, agents, segments, scripted
+/// posts and goals. Its type keeps that they are valid: every number and count is within its limits,
+/// version 1 has the plain ring and weights of 1 alone, the frames of the posts never fall, each agent
+/// named exists, no agent has two goals, and each agent is clear of each segment.
 #[derive(Drop)]
 pub struct Scenario {
+    version: u32,
+    ring: u32,
     steps: u32,
     agents: List<Agent>,
     segments: List<Segment>,
@@ -24,30 +27,50 @@ pub struct Scenario {
 impl Model for Scenario {
     ghost Value = { Parts };
 
-    ghost view = { λ s. record { steps = s.steps; agents = s.agents.items; segments = s.segments.items; posts = s.posts.items; goals = s.goals.items } };
+    ghost view = { λ s. record { version = s.version; ring = s.ring; steps = s.steps; agents = s.agents.items; segments = s.segments.items; posts = s.posts.items; goals = s.goals.items } };
 
-    ghost invariant = { λ s. IsValid (record { steps = s.steps; agents = s.agents.items; segments = s.segments.items; posts = s.posts.items; goals = s.goals.items }) };
+    ghost invariant = { λ s. IsValid (record { version = s.version; ring = s.ring; steps = s.steps; agents = s.agents.items; segments = s.segments.items; posts = s.posts.items; goals = s.goals.items }) };
 }
 
 impl Scenario {
     /// The scenario with these parts, which are valid.
     pub fn of(
+        version: u32,
+        ring: u32,
         steps: u32,
         agents: List<Agent>,
         segments: List<Segment>,
         posts: List<ScriptPost>,
         goals: List<Goal>,
     ) -> Scenario
-        requires { IsValid (record { steps = steps; agents = agents.items; segments = segments.items; posts = posts.items; goals = goals.items }) }
-        ensures { result ≡ record { steps = steps; agents = agents.items; segments = segments.items; posts = posts.items; goals = goals.items } }
+        requires { IsValid (record { version = version; ring = ring; steps = steps; agents = agents.items; segments = segments.items; posts = posts.items; goals = goals.items }) }
+        ensures { result ≡ record { version = version; ring = ring; steps = steps; agents = agents.items; segments = segments.items; posts = posts.items; goals = goals.items } }
     {
         Scenario {
+            version,
+            ring,
             steps,
             agents,
             segments,
             posts,
             goals,
         }
+    }
+
+    /// The version, 1 or 2.
+    pub fn version(&self) -> u32
+        ensures value { result ≡ self.now.version }
+        ensures valid { IsValid self.now }
+    {
+        self.version
+    }
+
+    /// How many points the ring of the speed polygons has, 36 or 60.
+    pub fn ring(&self) -> u32
+        ensures value { result ≡ self.now.ring }
+        ensures valid { IsValid self.now }
+    {
+        self.ring
     }
 
     /// How many steps a whole run has, 0 to 100,000.

@@ -16,6 +16,7 @@ fn first_frame_has_the_agents_as_they_are(rt: HostRuntime) -> Result<(), Fail> {
         most: 10,
         horizon: 11,
         wall_horizon: 12,
+        weight: 13,
     });
     let mut goals = List::with_room(rt.alloc(), 1)?;
     goals.push(Goal {
@@ -26,11 +27,15 @@ fn first_frame_has_the_agents_as_they_are(rt: HostRuntime) -> Result<(), Fail> {
     });
     let scenario = Scenario::of(
         2,
+        60,
+        2,
         agents,
         List::with_room(rt.alloc(), 0)?,
         List::with_room(rt.alloc(), 0)?,
         goals,
     );
+    assert_eq!(rt; scenario.version(), 2);
+    assert_eq!(rt; scenario.ring(), 60);
     assert_eq!(rt; scenario.controllers(), 4);
     let frame = first_frame(rt.alloc(), &scenario)?;
     assert_eq!(rt; frame.number, 0);

@@ -1,7 +1,7 @@
 // Whether the parts of a scenario are valid.
 ghost use Rattle.std.specs.Prelude.{◌≡◌, ◌≢◌, ◌≤◌, ◌↔◌, All, AllPairs, IsTrue, length};
-ghost use Rattle.crowd_data.specs.Limits.{IsAgent, IsBuild, IsGoal, IsScriptPost, IsSegment, IsWithin};
-ghost use Rattle.crowd_data.specs.Scenario.{IsValid};
+ghost use Rattle.crowd_data.specs.Limits.{IsAgent, IsBuild, IsGoal, IsRing, IsScriptPost, IsSegment, IsVersion, IsWeight, IsWithin};
+ghost use Rattle.crowd_data.specs.Scenario.{HasPlainParts, IsValid};
 ghost use Rattle.crowd_data.specs.Walls.{IsClear};
 ghost use Rattle.crowd_data.specs.declared.agent.Agent.{Agent};
 ghost use Rattle.crowd_data.specs.declared.post.Goal.{Goal};
@@ -10,8 +10,9 @@ ghost use Rattle.crowd_data.specs.declared.post.ScriptPost.{ScriptPost};
 use crate::agent::Agent;
 use crate::clearance::clear;
 use crate::limits::{
-    GREATEST_CONTROLLER, GREATEST_COORDINATE, GREATEST_HORIZON, GREATEST_RADIUS, GREATEST_RANGE,
-    GREATEST_SPEED, MOST_AGENTS, MOST_NEIGHBOURS, MOST_POSTS, MOST_SEGMENTS, MOST_STEPS,
+    FINE_RING, FIRST_VERSION, GREATEST_CONTROLLER, GREATEST_COORDINATE, GREATEST_HORIZON,
+    GREATEST_RADIUS, GREATEST_RANGE, GREATEST_SPEED, GREATEST_WEIGHT, LATEST_VERSION, MOST_AGENTS,
+    MOST_NEIGHBOURS, MOST_POSTS, MOST_SEGMENTS, MOST_STEPS, PLAIN_RING,
 };
 use crate::post::{Goal, ScriptPost};
 use crate::segment::Segment;
@@ -24,7 +25,13 @@ fn is_within(v: V2, most: u32) -> bool
     v.x.unsigned_abs() <= u64::from(most) && v.y.unsigned_abs() <= u64::from(most)
 }
 
-// The sizes, the speed and the look-out are within their limits.
+fn is_weight(weight: u32) -> bool
+    ensures { IsTrue result ↔ IsWeight weight }
+{
+    1 <= weight && weight <= GREATEST_WEIGHT
+}
+
+// The sizes, the speed, the look-out and the weight are within their limits.
 fn is_build(agent: &Agent) -> bool
     ensures { IsTrue result ↔ IsBuild agent.now }
 {
@@ -37,6 +44,7 @@ fn is_build(agent: &Agent) -> bool
         && agent.horizon <= GREATEST_HORIZON
         && 1 <= agent.wall_horizon
         && agent.wall_horizon <= GREATEST_HORIZON
+        && is_weight(agent.weight)
 }
 
 fn is_agent(agent: &Agent) -> bool
@@ -145,6 +153,32 @@ fn are_clear(agents: &[Agent], segments: &[Segment]) -> bool
     agents.iter().all(|agent| is_clear_of_all(agent, segments))
 }
 
+fn is_version(version: u32) -> bool
+    ensures { IsTrue result ↔ IsVersion version }
+{
+    version == FIRST_VERSION || version == LATEST_VERSION
+}
+
+fn is_ring(ring: u32) -> bool
+    ensures { IsTrue result ↔ IsRing ring }
+{
+    ring == PLAIN_RING || ring == FINE_RING
+}
+
+// What version 1 knows of: the plain ring, and no weight but 1.
+fn are_plain(ring: u32, agents: &[Agent]) -> bool
+    ensures { IsTrue result ↔ HasPlainParts ring agents.now }
+{
+    ring == PLAIN_RING && agents.iter().all(|agent| agent.weight == 1)
+}
+
+// The version and the ring exist, and version 1 has nothing that is new in version 2.
+fn are_of_version(version: u32, ring: u32, agents: &[Agent]) -> bool
+    ensures { IsTrue result ↔ (IsVersion version × IsRing ring × (version ≡ FIRST_VERSION → HasPlainParts ring agents.now)) }
+{
+    is_version(version) && is_ring(ring) && (version != FIRST_VERSION || are_plain(ring, agents))
+}
+
 // The steps and the counts are within their limits; goals need no greatest count of their own.
 fn are_counts(steps: u32, agents: usize, segments: usize, posts: usize) -> bool
     ensures { IsTrue result ↔ ((steps ≤ MOST_STEPS) × (agents ≤ MOST_AGENTS) × (segments ≤ MOST_SEGMENTS) × (posts ≤ MOST_POSTS)) }
@@ -155,19 +189,25 @@ fn are_counts(steps: u32, agents: usize, segments: usize, posts: usize) -> bool
         && posts <= MOST_POSTS as usize
 }
 
-/// Whether these are the parts of a scenario: every number and count is within its limits, each post's
-/// frame is from 1 to the steps, frames of posts never fall, each agent named exists, no agent has two
-/// goals, and each agent is clear of each segment. It takes no memory. Its time grows with the count of
-/// agents times that of segments, and with the other counts alone.
+/// Whether these are the parts of a scenario: the version is 1 or 2, the ring 36 or 60, every number and count
+/// within its limits, and in version 1 the ring is 36 and each weight 1; each post's frame is from 1 to the
+/// steps, frames of posts never fall, each agent named exists, no agent has two goals, and each agent is clear
+/// of each segment. It takes no memory. Its time grows with the count of agents times that of segments, and
+/// with the other counts alone.
 pub fn valid(
+    version: u32,
+    ring: u32,
     steps: u32,
     agents: &[Agent],
     segments: &[Segment],
     posts: &[ScriptPost],
     goals: &[Goal],
 ) -> bool
-    ensures { IsTrue result ↔ IsValid (record { steps = steps; agents = agents.now; segments = segments.now; posts = posts.now; goals = goals.now }) }
+    ensures { IsTrue result ↔ IsValid (record { version = version; ring = ring; steps = steps; agents = agents.now; segments = segments.now; posts = posts.now; goals = goals.now }) }
 {
+    if !are_of_version(version, ring, agents) {
+        return false;
+    }
     if !are_counts(steps, agents.len(), segments.len(), posts.len()) {
         return false;
     }

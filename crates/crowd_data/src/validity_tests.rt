@@ -12,6 +12,7 @@ const AGENT: Agent = Agent {
     most: 10,
     horizon: 10,
     wall_horizon: 4,
+    weight: 1,
 };
 
 // A wall that the agent touches.
@@ -36,11 +37,11 @@ const GOAL: Goal = Goal {
 // The callers learn nothing of these helpers, so that no proof computes on the parts.
 
 fn is_valid(agents: &[Agent], segments: &[Segment], posts: &[ScriptPost], goals: &[Goal]) -> bool {
-    valid(2, agents, segments, posts, goals)
+    valid(1, 36, 2, agents, segments, posts, goals)
 }
 
 fn has_valid_steps(steps: u32) -> bool {
-    valid(steps, &[AGENT], &[], &[], &[])
+    valid(1, 36, steps, &[AGENT], &[], &[], &[])
 }
 
 fn has_valid_agents(agent: Agent) -> bool {
@@ -57,6 +58,18 @@ fn has_valid_posts(post: ScriptPost) -> bool {
 
 fn has_valid_goals(goal: Goal) -> bool {
     is_valid(&[AGENT, AGENT], &[], &[], &[GOAL, goal])
+}
+
+fn has_valid_version(version: u32, ring: u32, weight: u32) -> bool {
+    valid(
+        version,
+        ring,
+        2,
+        &[AGENT, Agent { weight, ..AGENT }],
+        &[],
+        &[],
+        &[],
+    )
 }
 
 fn are_agents_few() -> bool {
@@ -141,4 +154,17 @@ fn agent_on_a_segment(rt: HostRuntime) {
         ..AGENT
     };
     assert!(rt; !is_valid(&[wider], &[SEGMENT], &[], &[]));
+}
+
+#[test]
+fn version_1_has_no_weights_and_the_plain_ring(rt: HostRuntime) {
+    assert!(rt; has_valid_version(1, 36, 1));
+    assert!(rt; has_valid_version(2, 36, 16));
+    assert!(rt; has_valid_version(2, 60, 1));
+    assert!(rt; !has_valid_version(1, 36, 2));
+    assert!(rt; !has_valid_version(1, 60, 1));
+    assert!(rt; !has_valid_version(2, 60, 0));
+    assert!(rt; !has_valid_version(2, 60, 17));
+    assert!(rt; !has_valid_version(2, 48, 1));
+    assert!(rt; !has_valid_version(3, 36, 1));
 }

@@ -4,6 +4,7 @@ pub mod EdgePlane
 pub mod Sector
 pub mod ShortPoint
 pub mod SpeedPolygon
+pub mod ScenarioRings
 pub mod InnerDisc
 pub mod WallPlane
 pub mod Examples

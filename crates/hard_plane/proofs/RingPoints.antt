@@ -11,7 +11,7 @@ use Rattle.exact_algebra.proofs.Sizes.{square_abs, root_lt}
 use Rattle.fixed_vec.specs.declared.vector.V2.{V2}
 use Rattle.fixed_vec.specs.Vector.{cross, square, IsBelow}
 use Rattle.fixed_vec.specs.HalfPlane.{Plane}
-use Rattle.crowd_data.specs.RingPlanes.{edge_plane, edge_planes, ring_planes, ring_planes_of, ring_points}
+use Rattle.crowd_data.specs.RingPlanes.{edge_plane, edge_planes, ring_planes, ring_planes_of, ring_points, ring_radius}
 use Rattle.hard_plane.specs.Ring.{is_at, all_at, turns_left, is_round, is_ring, IsNeighbour}
 
 pub ring_bounds : (r : ℤ) (ps : List V2) → is_ring r ps ≡ true → (pos 0 <ℤ r) × (r <ℤ pos 1024) × (is_round r ps ≡ true)
@@ -90,10 +90,10 @@ pub length-ring_planes_of : (r : ℤ) (ps : List V2) (speed : ℕ) → length (r
 length-ring_planes_of r [] speed = refl
 length-ring_planes_of r (p ∷ ps) speed = edge_planes_length r (speed - 1) p (p ∷ ps)
 
--- the polygon of the plain ring is the speed polygon
-pub ring_planes_of-plain : (r : ℤ) (ps : List V2) (speed : ℕ) → r ≡ pos 65 → ps ≡ ring_points → ring_planes_of r ps speed ≡ ring_planes speed
+-- the polygon of a scenario's ring is the speed polygon
+pub ring_planes_of-ring : (ring : ℕ) (r : ℤ) (ps : List V2) (speed : ℕ) → r ≡ ring_radius ring → ps ≡ ring_points ring → ring_planes_of r ps speed ≡ ring_planes ring speed
 unfolding ring_planes
-ring_planes_of-plain r ps speed e f = λ i. ring_planes_of (e i) (f i) speed
+ring_planes_of-ring ring r ps speed e f = λ i. ring_planes_of (e i) (f i) speed
 
 -- one half-plane pushed after another, in order, make up the list
 pub take-next : (planes : List Plane) (k : ℕ) (plane : Plane) → slice_get planes k ≡ Some plane → take (k + 1) planes ≡ take k planes ++ plane ∷ []

@@ -1,7 +1,7 @@
 -- The wall plane of a clear segment in reach is within the bounds of the type, and so it is drawn in.
 use Rattle.std.proofs.Common.{◌≡◌, ⊎_elim, sym, subst, ℕ, ◌+◌, ◌*◌, ◌^◌, ◌<◌, ◌≤◌, true, [], ◌∷◌, arith, ℤ, pos, neg_ℤ, ◌+ℤ◌, ◌-ℤ◌, ◌*ℤ◌, ◌≤ℤ◌, ◌<ℤ◌, unsigned_abs, mul-le-mul, int_le}
 use Rattle.std.specs.Int.{div_ceil, int_min, int_max}
-use Rattle.std.proofs.lemmas.Int.{ints, clamps, unsigned_abs-mul}
+use Rattle.std.proofs.lemmas.Int.{ints, clamps}
 use Rattle.std.proofs.lemmas.Bool.{cases_lt}
 use Rattle.exact_algebra.specs.Numbers.{ceil, ceil_root}
 use Rattle.exact_algebra.proofs.Ring.{quotes, equal}

@@ -3,13 +3,14 @@ ghost use Rattle.std.specs.Prelude.{◌≡◌, ◌<◌, ◌≤◌, ◌^◌, All,
 ghost use Rattle.exact_algebra.specs.Numbers.{ceil};
 ghost use Rattle.fixed_vec.specs.Point.{IsIn, rounded_of};
 ghost use Rattle.fixed_vec.specs.Vector.{IsBelow, dot, square};
-ghost use Rattle.crowd_data.specs.RingPlanes.{ring_planes, ring_planes_of, ring_points};
-ghost use Rattle.hard_plane.specs.Ring.{is_ring, IsInner, IsNeighbour};
+ghost use Rattle.crowd_data.specs.RingPlanes.{ring_planes_of, ring_points, ring_radius};
+ghost use Rattle.hard_plane.specs.Ring.{is_near_round, is_ring, IsInner, IsNeighbour};
 
+use crowd_data::{FINE_RING, PLAIN_RING};
 use fixed_vec::{HalfPlane, Point, V2, minus, perp};
 
 // All whole points at distance 65 from the origin.
-const POINTS: [V2; 36] = [
+const PLAIN_POINTS: [V2; 36] = [
     V2 { x: 65, y: 0 },
     V2 { x: 63, y: 16 },
     V2 { x: 60, y: 25 },
@@ -48,6 +49,70 @@ const POINTS: [V2; 36] = [
     V2 { x: 63, y: -16 },
 ];
 
+// All whole points at distance 325 from the origin.
+const FINE_POINTS: [V2; 60] = [
+    V2 { x: 325, y: 0 },
+    V2 { x: 323, y: 36 },
+    V2 { x: 315, y: 80 },
+    V2 { x: 312, y: 91 },
+    V2 { x: 300, y: 125 },
+    V2 { x: 280, y: 165 },
+    V2 { x: 260, y: 195 },
+    V2 { x: 253, y: 204 },
+    V2 { x: 204, y: 253 },
+    V2 { x: 195, y: 260 },
+    V2 { x: 165, y: 280 },
+    V2 { x: 125, y: 300 },
+    V2 { x: 91, y: 312 },
+    V2 { x: 80, y: 315 },
+    V2 { x: 36, y: 323 },
+    V2 { x: 0, y: 325 },
+    V2 { x: -36, y: 323 },
+    V2 { x: -80, y: 315 },
+    V2 { x: -91, y: 312 },
+    V2 { x: -125, y: 300 },
+    V2 { x: -165, y: 280 },
+    V2 { x: -195, y: 260 },
+    V2 { x: -204, y: 253 },
+    V2 { x: -253, y: 204 },
+    V2 { x: -260, y: 195 },
+    V2 { x: -280, y: 165 },
+    V2 { x: -300, y: 125 },
+    V2 { x: -312, y: 91 },
+    V2 { x: -315, y: 80 },
+    V2 { x: -323, y: 36 },
+    V2 { x: -325, y: 0 },
+    V2 { x: -323, y: -36 },
+    V2 { x: -315, y: -80 },
+    V2 { x: -312, y: -91 },
+    V2 { x: -300, y: -125 },
+    V2 { x: -280, y: -165 },
+    V2 { x: -260, y: -195 },
+    V2 { x: -253, y: -204 },
+    V2 { x: -204, y: -253 },
+    V2 { x: -195, y: -260 },
+    V2 { x: -165, y: -280 },
+    V2 { x: -125, y: -300 },
+    V2 { x: -91, y: -312 },
+    V2 { x: -80, y: -315 },
+    V2 { x: -36, y: -323 },
+    V2 { x: 0, y: -325 },
+    V2 { x: 36, y: -323 },
+    V2 { x: 80, y: -315 },
+    V2 { x: 91, y: -312 },
+    V2 { x: 125, y: -300 },
+    V2 { x: 165, y: -280 },
+    V2 { x: 195, y: -260 },
+    V2 { x: 204, y: -253 },
+    V2 { x: 253, y: -204 },
+    V2 { x: 260, y: -195 },
+    V2 { x: 280, y: -165 },
+    V2 { x: 300, y: -125 },
+    V2 { x: 312, y: -91 },
+    V2 { x: 315, y: -80 },
+    V2 { x: 323, y: -36 },
+];
+
 /// K whole points that go counter-clockwise round the origin at one distance. The half-planes of the
 /// edges between neighbouring points, moved to the distance of a speed less one, are the polygon of
 /// that speed.
@@ -58,6 +123,7 @@ pub struct Ring<const K: usize> {
     /// The points, in units, counter-clockwise.
     pub points: [V2; K],
     ghost round: { IsTrue (is_ring radius points) },
+    ghost near: { IsTrue (is_near_round radius points) },
 }
 
 // k times the inner product of an edge's normal with one of its points.
@@ -81,25 +147,29 @@ fn quotient_up(n: i64, d: i64) -> i128
 }
 
 impl Ring<36> {
-    /// The ring of 36 points at distance 65.
+    /// The plain ring: 36 points at distance 65.
     pub fn plain() -> Ring<36>
-        ensures radius { result.radius ≡ pos 65 }
-        ensures points { result.points ≡ ring_points }
+        ensures radius { result.radius ≡ ring_radius PLAIN_RING }
+        ensures points { result.points ≡ ring_points PLAIN_RING }
     {
         Ring {
             radius: 65,
-            points: POINTS,
+            points: PLAIN_POINTS,
         }
     }
+}
 
-    /// The inner law. It answers nothing: its contract says that a point no longer than 0.99 times the
-    /// speed less one, less one, is in all half-planes of the speed.
-    pub fn inner_law(speed: u32, point: &Point)
-        requires speed { speed ≤ 16384 }
-        requires inner { IsInner speed point.now }
-        ensures { All (λ plane. IsIn plane point.now) (ring_planes speed) }
+impl Ring<60> {
+    /// The fine ring: 60 points at distance 325. Its polygons lose at most 0.6 hundredths of a speed, where
+    /// those of the plain ring lose up to 1.1.
+    pub fn fine() -> Ring<60>
+        ensures radius { result.radius ≡ ring_radius FINE_RING }
+        ensures points { result.points ≡ ring_points FINE_RING }
     {
-        let _ = point.q();
+        Ring {
+            radius: 325,
+            points: FINE_POINTS,
+        }
     }
 }
 
@@ -156,6 +226,15 @@ impl<const K: usize> Ring<K> {
         ensures across { pos (unsigned_abs point.now.x) ≤ℤ (point.now.q *ℤ pos (2 ^ 32)) }
         ensures along { pos (unsigned_abs point.now.y) ≤ℤ (point.now.q *ℤ pos (2 ^ 32)) }
         ensures within_speed { square (rounded_of point.now) ≤ℤ (pos speed *ℤ pos speed) }
+    {
+        let _ = point.q();
+    }
+    /// The inner law. It answers nothing: its contract says that a point no longer than 0.99 times the
+    /// speed less one, less one, is in all half-planes of the speed.
+    pub fn inner_law(&self, speed: u32, point: &Point)
+        requires speed { speed ≤ 16384 }
+        requires inner { IsInner speed point.now }
+        ensures { All (λ plane. IsIn plane point.now) (ring_planes_of self.now.radius self.now.points speed) }
     {
         let _ = point.q();
     }

@@ -21,6 +21,7 @@ const WALKER: Agent = Agent {
     most: 0,
     horizon: 1,
     wall_horizon: 4,
+    weight: 1,
 };
 
 #[test]
@@ -33,6 +34,24 @@ fn polygon_of_a_speed(rt: HostRuntime) {
         (0, 16384, V2 { x: -16, y: -2 }, -262128),
         // -2 * 1183 / 65 = -36.4
         (4, 3, V2 { x: -13, y: -13 }, -36),
+    ];
+    for (k, speed, normal, offset) in edges {
+        let plane = ring.plane(k, speed);
+        assert_eq!(rt; plane.n(), normal, "at {k}");
+        assert_eq!(rt; plane.c(), offset, "at {k}");
+    }
+}
+
+#[test]
+fn polygon_of_a_speed_by_the_fine_ring(rt: HostRuntime) {
+    let ring = Ring::<60>::fine();
+    // (point, speed, normal, offset)
+    let edges = [
+        (0, 326, V2 { x: -36, y: -2 }, -11700),
+        (59, 326, V2 { x: -36, y: 2 }, -11700),
+        (0, 16384, V2 { x: -36, y: -2 }, -589788),
+        // -3 * 3705 / 325 = -34.2
+        (2, 4, V2 { x: -11, y: -3 }, -34),
     ];
     for (k, speed, normal, offset) in edges {
         let plane = ring.plane(k, speed);
@@ -55,9 +74,12 @@ fn no_way_from_the_origin_at_speeds_0_and_1(rt: HostRuntime) {
 fn rounds_a_point_within_a_speed(rt: HostRuntime) {
     let ring = Ring::<36>::plain();
     let point = Point::of(61, 81, 2);
-    Ring::<36>::inner_law(66, &point);
+    ring.inner_law(66, &point);
     ring.speed_law(66, &point);
     assert_eq!(rt; point.rounded(), V2 { x: 31, y: 41 });
+    let fine = Ring::<60>::fine();
+    fine.inner_law(66, &point);
+    fine.speed_law(66, &point);
 }
 
 #[test]

@@ -39,10 +39,10 @@ arc_relative = rw (root 6000) refl
 arc_lack : lack eastward far_off 10 ≡ neg_ℤ (pos 3000000)
 arc_lack = rw (root 6000) refl
 
-arc_lower : lower_share eastward far_off 10 ≡ plane (neg_ℤ (pos 6000)) (pos 0) (neg_ℤ (pos 2700000))
+arc_lower : lower_share eastward far_off 10 1 1 ≡ plane (neg_ℤ (pos 6000)) (pos 0) (neg_ℤ (pos 2700000))
 arc_lower = rw (root 6000) refl
 
-arc_drawn : drawn_of (lower_share eastward far_off 10) ≡ plane (neg_ℤ (pos 6000)) (pos 0) (neg_ℤ (pos 2697000))
+arc_drawn : drawn_of (lower_share eastward far_off 10 1 1) ≡ plane (neg_ℤ (pos 6000)) (pos 0) (neg_ℤ (pos 2697000))
 arc_drawn = rw (root 6000) refl
 
 -- head on, nearer: the right leg, whose square is 8,000,000
@@ -58,10 +58,10 @@ right_region = refl
 right_relative : relative_plane eastward near_by 10 ≡ plane (neg_ℤ (pos 3000000)) (neg_ℤ (pos 8484000)) (pos 0)
 right_relative = rw leg refl
 
-right_lower : drawn_of (lower_share eastward near_by 10) ≡ plane (neg_ℤ (pos 3000000)) (neg_ℤ (pos 8484000)) (pos 5742000)
+right_lower : drawn_of (lower_share eastward near_by 10 1 1) ≡ plane (neg_ℤ (pos 3000000)) (neg_ℤ (pos 8484000)) (pos 5742000)
 right_lower = rw leg refl
 
-right_higher : drawn_of (higher_share eastward near_by 10) ≡ plane (pos 3000000) (pos 8484000) (pos 5742000)
+right_higher : drawn_of (higher_share eastward near_by 10 1 1) ≡ plane (pos 3000000) (pos 8484000) (pos 5742000)
 right_higher = rw leg refl
 
 -- not quite head on: the left leg
@@ -74,10 +74,10 @@ left_region = refl
 left_lack : lack eastward aside 10 ≡ pos 1191516000
 left_lack = rw leg refl
 
-left_lower : drawn_of (lower_share eastward aside 10) ≡ plane (neg_ℤ (pos 3000000)) (pos 8484000) (pos 1500000)
+left_lower : drawn_of (lower_share eastward aside 10 1 1) ≡ plane (neg_ℤ (pos 3000000)) (pos 8484000) (pos 1500000)
 left_lower = rw leg refl
 
-left_higher : drawn_of (higher_share eastward aside 10) ≡ plane (pos 3000000) (neg_ℤ (pos 8484000)) (pos 9984000)
+left_higher : drawn_of (higher_share eastward aside 10 1 1) ≡ plane (pos 3000000) (neg_ℤ (pos 8484000)) (pos 9984000)
 left_higher = rw leg refl
 
 -- touching at rest: a leg of length 0
@@ -94,10 +94,10 @@ touching_relative = rw (root 1) refl
 one_place_relative : relative_plane (resting 0) (resting 0) 10 ≡ plane (pos 1) (pos 0) (pos 1000)
 one_place_relative = rw (root 1) refl
 
-one_place_lower : drawn_of (lower_share (resting 0) (resting 0) 10) ≡ plane (pos 1) (pos 0) (pos 501)
+one_place_lower : drawn_of (lower_share (resting 0) (resting 0) 10 1 1) ≡ plane (pos 1) (pos 0) (pos 501)
 one_place_lower = rw (root 1) refl
 
-one_place_higher : drawn_of (higher_share (resting 0) (resting 0) 10) ≡ plane (neg_ℤ (pos 1)) (pos 0) (pos 501)
+one_place_higher : drawn_of (higher_share (resting 0) (resting 0) 10 1 1) ≡ plane (neg_ℤ (pos 1)) (pos 0) (pos 501)
 one_place_higher = rw (root 1) refl
 
 -- an overlap at the limits, with an odd lack
@@ -110,8 +110,15 @@ limits_region = refl
 limits_lack : lack (greatest 0 (pos 16384)) (greatest 65535 (neg_ℤ (pos 16384))) 4096 ≡ pos 1073741823
 limits_lack = rw (root 32767) refl
 
-limits_lower : drawn_of (lower_share (greatest 0 (pos 16384)) (greatest 65535 (neg_ℤ (pos 16384))) 4096) ≡ plane (neg_ℤ (pos 32767)) (pos 0) (pos 32768)
+limits_lower : drawn_of (lower_share (greatest 0 (pos 16384)) (greatest 65535 (neg_ℤ (pos 16384))) 4096 1 1) ≡ plane (neg_ℤ (pos 32767)) (pos 0) (pos 32768)
 limits_lower = rw (root 32767) refl
 
-limits_higher : drawn_of (higher_share (greatest 0 (pos 16384)) (greatest 65535 (neg_ℤ (pos 16384))) 4096) ≡ plane (pos 32767) (pos 0) (pos 32767)
+limits_higher : drawn_of (higher_share (greatest 0 (pos 16384)) (greatest 65535 (neg_ℤ (pos 16384))) 4096 1 1) ≡ plane (pos 32767) (pos 0) (pos 32767)
 limits_higher = rw (root 32767) refl
+
+-- in one place, with weights of 3 and 1: three parts of four fall to the heavier one
+one_place_heavier : drawn_of (lower_share (resting 0) (resting 0) 10 3 1) ≡ plane (pos 1) (pos 0) (pos 751)
+one_place_heavier = rw (root 1) refl
+
+one_place_lighter : drawn_of (higher_share (resting 0) (resting 0) 10 3 1) ≡ plane (neg_ℤ (pos 1)) (pos 0) (pos 251)
+one_place_lighter = rw (root 1) refl

@@ -1,9 +1,7 @@
 -- The whole length of a vector, and how large inner products are in lengths.
-use Rattle.std.proofs.Common.{◌≡◌, ℕ, ◌*◌, ◌<◌, ◌≤◌, ⊎_elim, subst, arith, ℤ, pos, negsuc, ◌*ℤ◌, ◌≤ℤ◌, ◌<ℤ◌, unsigned_abs, mul-le-mul}
+use Rattle.std.proofs.Common.{ℕ, ◌*◌, ◌≤◌, ⊎_elim, subst, arith, pos, ◌*ℤ◌, ◌≤ℤ◌, ◌<ℤ◌, unsigned_abs, mul-le-mul}
 use Rattle.std.proofs.lemmas.Int.{ints}
-use Rattle.std.proofs.lemmas.Nat.{mul-lt}
 use Rattle.std.proofs.lemmas.Bool.{cases_lt}
-use Rattle.exact_algebra.proofs.Order.{square_nonneg}
 use Rattle.exact_algebra.proofs.Cauchy.{along_le}
 use Rattle.exact_algebra.proofs.Rounding.{ceil_root_reaches, ceil_root_first}
 use Rattle.exact_algebra.proofs.Sizes.{root_le, root_lt, square_abs}

@@ -1,6 +1,5 @@
 -- What each region of a pair says of the discs.
-use Rattle.std.proofs.Common.{◌≡◌, ℕ, refl, Bool, true, false, cond, arith, ℤ, pos, ◌*ℤ◌, ◌≤ℤ◌, ◌<ℤ◌}
-use Rattle.std.proofs.lemmas.Int.{ints}
+use Rattle.std.proofs.Common.{◌≡◌, ℕ, refl, Bool, true, false, cond, pos, ◌*ℤ◌, ◌≤ℤ◌, ◌<ℤ◌}
 use Rattle.std.specs.Prelude.{int_lt, ◌&&◌}
 use Rattle.exact_algebra.proofs.Tests.{lt_false, lt_true}
 use Rattle.fixed_vec.specs.Vector.{cross, dot, square}

@@ -1,16 +1,24 @@
 // The share of a pair's half-plane that each of the two agents takes.
-ghost use Rattle.std.specs.Prelude.{◌≡◌, ℕ, ◌^◌, ◌<◌, pos, unsigned_abs};
-ghost use Rattle.exact_algebra.specs.Numbers.{ceil};
+ghost use Rattle.std.specs.Prelude.{◌≡◌, ℕ, ◌^◌, ◌<◌, unsigned_abs};
 ghost use Rattle.fixed_vec.specs.Vector.{opposite as opposite_of};
 ghost use Rattle.fixed_vec.specs.HalfPlane.{FitsPlane, drawn_of, relieved_of};
-ghost use Rattle.crowd_data.specs.Limits.{IsWithin};
-ghost use Rattle.crowd_data.specs.Pairs.{IsPair, higher_share, lack as lack_of, lower_share, relative_plane};
+ghost use Rattle.crowd_data.specs.Limits.{IsWeight, IsWithin};
+ghost use Rattle.crowd_data.specs.Pairs.{IsPair, higher_share, lack as lack_of, lower_share, part_of, relative_plane};
 
 use crate::narrow::{div_up, dot};
 use crate::pair::Pair;
 use crate::relative::relative;
 use crowd_data::Disc;
 use fixed_vec::{HalfPlane, V2};
+
+// The weights by which the two agents of a pair split what is lacking.
+#[derive(Clone, Copy)]
+struct Weights {
+    low: u32,
+    high: u32,
+    ghost low_limits: { IsWeight low },
+    ghost high_limits: { IsWeight high },
+}
 
 // The vector the other way round.
 fn opposite(n: V2) -> V2
@@ -36,29 +44,48 @@ fn lack(pair: &Pair, relative: &HalfPlane) -> i64
     relative.c() as i64 - dot(normal(relative), pair.relative_velocity())
 }
 
-// Half of what is lacking, rounded up.
-fn half(pair: &Pair, relative: &HalfPlane) -> i64
-    requires { relative.now ≡ relative_plane pair.now.low pair.now.high pair.now.tau }
-    ensures value { result ≡ ceil (lack_of pair.now.low pair.now.high pair.now.tau) (pos 2) }
+// The part of a number that falls to the lower agent, rounded up.
+fn part(whole: i64, weights: &Weights) -> i64
+    requires { unsigned_abs whole < 2 ^ 50 }
+    ensures value { result ≡ part_of whole weights.now.low weights.now.high }
     ensures small { unsigned_abs result < 2 ^ 50 }
 {
-    div_up(lack(pair, relative), 2)
+    // Most pairs are of one weight, and halving is faster.
+    if weights.low == weights.high {
+        div_up(whole, 2)
+    } else {
+        div_up(
+            whole * i64::from(weights.low),
+            i64::from(weights.low + weights.high),
+        )
+    }
 }
 
-// The offset of the lower agent's share: half of what is lacking, rounded up, beyond its own velocity.
-fn lower_offset(pair: &Pair, relative: &HalfPlane) -> i64
+// What the lower agent makes up of what is lacking.
+fn lower_part(pair: &Pair, relative: &HalfPlane, weights: &Weights) -> i64
     requires { relative.now ≡ relative_plane pair.now.low pair.now.high pair.now.tau }
-    ensures { result ≡ (lower_share pair.now.low pair.now.high pair.now.tau).c }
+    ensures value { result ≡ part_of (lack_of pair.now.low pair.now.high pair.now.tau) weights.now.low weights.now.high }
+    ensures small { unsigned_abs result < 2 ^ 50 }
 {
-    dot(normal(relative), pair.low.vel) + half(pair, relative)
+    part(lack(pair, relative), weights)
+}
+
+// The offset of the lower agent's share: its part of what is lacking beyond its own velocity.
+fn lower_offset(pair: &Pair, relative: &HalfPlane, weights: &Weights) -> i64
+    requires { relative.now ≡ relative_plane pair.now.low pair.now.high pair.now.tau }
+    ensures { result ≡ (lower_share pair.now.low pair.now.high pair.now.tau weights.now.low weights.now.high).c }
+{
+    dot(normal(relative), pair.low.vel) + lower_part(pair, relative, weights)
 }
 
 // The offset of the higher agent's share: the rest of what is lacking.
-fn higher_offset(pair: &Pair, relative: &HalfPlane) -> i64
+fn higher_offset(pair: &Pair, relative: &HalfPlane, weights: &Weights) -> i64
     requires { relative.now ≡ relative_plane pair.now.low pair.now.high pair.now.tau }
-    ensures { result ≡ (higher_share pair.now.low pair.now.high pair.now.tau).c }
+    ensures { result ≡ (higher_share pair.now.low pair.now.high pair.now.tau weights.now.low weights.now.high).c }
 {
-    lack(pair, relative) - half(pair, relative) - dot(normal(relative), pair.high.vel)
+    lack(pair, relative)
+        - lower_part(pair, relative, weights)
+        - dot(normal(relative), pair.high.vel)
 }
 
 // The half-plane with this normal and offset, drawn in.
@@ -71,10 +98,19 @@ fn drawn_in(n: V2, c: i64) -> HalfPlane
 }
 
 /// The half-plane that the agent with the lower number takes against the other one: its share, drawn in.
-/// It keeps its bounds under every relief below 2^18. The discs are within the limits of `region`.
-pub fn lower_plane(low: &Disc, high: &Disc, tau: u32) -> HalfPlane
-    requires { IsPair low.now high.now tau }
-    ensures value { result ≡ drawn_of (lower_share low.now high.now tau) }
+/// It keeps its bounds under every relief below 2^18. The discs are within the limits of `region`, and the
+/// weights from 1 to 16.
+pub fn lower_plane(
+    low: &Disc,
+    high: &Disc,
+    tau: u32,
+    low_weight: u32,
+    high_weight: u32,
+) -> HalfPlane
+    requires pair { IsPair low.now high.now tau }
+    requires low_weight { IsWeight low_weight }
+    requires high_weight { IsWeight high_weight }
+    ensures value { result ≡ drawn_of (lower_share low.now high.now tau low_weight high_weight) }
     ensures relieved { (relief : ℕ) → relief < 2 ^ 18 → FitsPlane (relieved_of result relief) }
 {
     let pair = Pair {
@@ -82,15 +118,29 @@ pub fn lower_plane(low: &Disc, high: &Disc, tau: u32) -> HalfPlane
         high: *high,
         tau,
     };
+    let weights = Weights {
+        low: low_weight,
+        high: high_weight,
+    };
     let relative = relative(&pair);
-    drawn_in(normal(&relative), lower_offset(&pair, &relative))
+    let offset = lower_offset(&pair, &relative, &weights);
+    drawn_in(normal(&relative), offset)
 }
 
 /// The half-plane that the agent with the higher number takes against the other one: its share, drawn in.
-/// It keeps its bounds under every relief below 2^18. The discs are within the limits of `region`.
-pub fn higher_plane(low: &Disc, high: &Disc, tau: u32) -> HalfPlane
-    requires { IsPair low.now high.now tau }
-    ensures value { result ≡ drawn_of (higher_share low.now high.now tau) }
+/// It keeps its bounds under every relief below 2^18. The discs are within the limits of `region`, and the
+/// weights from 1 to 16.
+pub fn higher_plane(
+    low: &Disc,
+    high: &Disc,
+    tau: u32,
+    low_weight: u32,
+    high_weight: u32,
+) -> HalfPlane
+    requires pair { IsPair low.now high.now tau }
+    requires low_weight { IsWeight low_weight }
+    requires high_weight { IsWeight high_weight }
+    ensures value { result ≡ drawn_of (higher_share low.now high.now tau low_weight high_weight) }
     ensures relieved { (relief : ℕ) → relief < 2 ^ 18 → FitsPlane (relieved_of result relief) }
 {
     let pair = Pair {
@@ -98,6 +148,11 @@ pub fn higher_plane(low: &Disc, high: &Disc, tau: u32) -> HalfPlane
         high: *high,
         tau,
     };
+    let weights = Weights {
+        low: low_weight,
+        high: high_weight,
+    };
     let relative = relative(&pair);
-    drawn_in(opposite(normal(&relative)), higher_offset(&pair, &relative))
+    let offset = higher_offset(&pair, &relative, &weights);
+    drawn_in(opposite(normal(&relative)), offset)
 }

@@ -1,5 +1,5 @@
 -- From a frame in which every body is clear of every segment, advised velocities keep all bodies off all segments.
-use Rattle.std.proofs.Common.{◌≡◌, ◌∙◌, ◌<◌, ◌≤◌, ℕ, ◌+◌, List, [], ◌∷◌, length, sym, ap, slice_index_or, subst, arith, ℤ, pos, ◌*ℤ◌, ◌≤ℤ◌}
+use Rattle.std.proofs.Common.{◌≡◌, ◌∙◌, ◌≤◌, ℕ, List, [], ◌∷◌, sym, ap, slice_index_or, subst, arith, ℤ, pos, ◌*ℤ◌, ◌≤ℤ◌}
 use Rattle.std.specs.List.{All}
 use Rattle.std.proofs.lemmas.Int.{ints}
 use Rattle.exact_algebra.proofs.Ring.{quotes, shown}
@@ -28,12 +28,12 @@ use Rattle.run_law.proofs.Standing.{agent_is}
 abbrev pub IsKeptOff : V2 → V2 → Agent → Segment → Type 0
 IsKeptOff at vel agent segment = OffThroughout at vel agent.radius segment × OffThroughout at (times (pos agent.wall_horizon) vel) agent.radius segment
 
-pub advice_off : (segments : List Segment) (crowd : List Agent) (who : ℕ) (vel : V2) (mark : Mark) (relief : ℕ) → 1 ≤ (agent_at crowd who).radius → 1 ≤ (agent_at crowd who).wall_horizon
-    → All (IsClear (agent_at crowd who).pos (agent_at crowd who).radius) segments → IsAdvice segments crowd who vel mark relief
-    → All (IsKeptOff (agent_at crowd who).pos vel (agent_at crowd who)) segments
-advice_off segments crowd who vel mark relief some_radius some_horizon clear advice k d l =
-    let respects = advice_respects segments crowd who vel mark relief advice k d l in
-    let segment = slice_index_or segments k d in (
+pub advice_off : (scenario : Parts) (crowd : List Agent) (who : ℕ) (vel : V2) (mark : Mark) (relief : ℕ) → 1 ≤ (agent_at crowd who).radius → 1 ≤ (agent_at crowd who).wall_horizon
+    → All (IsClear (agent_at crowd who).pos (agent_at crowd who).radius) scenario.segments → IsAdvice scenario crowd who vel mark relief
+    → All (IsKeptOff (agent_at crowd who).pos vel (agent_at crowd who)) scenario.segments
+advice_off scenario crowd who vel mark relief some_radius some_horizon clear advice k d l =
+    let respects = advice_respects scenario crowd who vel mark relief advice k d l in
+    let segment = slice_index_or scenario.segments k d in (
       stays_off (agent_at crowd who).pos (agent_at crowd who) segment vel some_radius some_horizon (clear k d l) respects,
       stays_off_for (agent_at crowd who).pos (agent_at crowd who) segment vel some_radius some_horizon (clear k d l) respects,
     )
@@ -62,7 +62,7 @@ module _ (scenario : Parts) (valid : IsValid scenario) (frame next : Snapshot) (
       let stays = pos-after_posts who posts frame.bodies in
       let moved = step.moved who (omega (arith, sound.full, h)) in
       let clear = subst (λ at. All (IsClear at agent.radius) scenario.segments) (sym stays) (sound.clear who h) in
-      let off = advice_off scenario.segments crowd who vel (body_at next.bodies who).mark (body_at next.bodies who).relief
+      let off = advice_off scenario crowd who vel (body_at next.bodies who).mark (body_at next.bodies who).relief
       (subst (λ a. 1 ≤ a.radius) (sym same) build.some_radius) (subst (λ a. 1 ≤ a.wall_horizon) (sym same) build.some_wall_horizon)
       (subst (λ a. All (IsClear a.pos a.radius) scenario.segments) (sym same) clear) moved.advice in
       let kept : All (IsKeptOff (body_at bodies who).pos vel agent) scenario.segments = subst (λ a. All (IsKeptOff a.pos vel a) scenario.segments) same off in

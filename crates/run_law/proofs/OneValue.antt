@@ -1,37 +1,36 @@
 -- Advice, next frames and runs have one value.
-use Rattle.std.proofs.Common.{◌≡◌, ◌∙◌, ◌⊎◌, inl, inr, ⊎_elim, ℕ, zero, suc, ◌<◌, ◌+◌, List, [], ◌∷◌, length, refl, sym, ap, subst, arith}
+use Rattle.std.proofs.Common.{◌≡◌, ◌∙◌, ◌⊎◌, inl, inr, ⊎_elim, ℕ, zero, suc, ◌<◌, List, [], ◌∷◌, length, refl, sym, subst, arith}
 use Rattle.std.proofs.lemmas.Bool.{cases_eq, cases_lt}
 use Rattle.fixed_vec.specs.declared.vector.V2.{V2}
 use Rattle.fixed_vec.specs.Vector.{plus}
 use Rattle.crowd_data.specs.declared.agent.Agent.{Agent}
-use Rattle.crowd_data.specs.declared.segment.Segment.{Segment}
 use Rattle.crowd_data.specs.declared.frame.Body.{Body}
 use Rattle.crowd_data.specs.declared.frame.Mark.{Mark}
 use Rattle.crowd_data.specs.declared.post.Post.{Post}
-use Rattle.crowd_data.specs.Advice.{GivesWay, IsAdvice, IsCrowded, IsMarked, StandsStill, agent_at, planes_at}
-use Rattle.crowd_data.specs.Run.{Follow, IsMoved, IsNext, IsRun, Snapshot, after_posts, body_at, crowd_of, start_of}
+use Rattle.crowd_data.specs.Advice.{GivesWay, IsAdvice, IsMarked, StandsStill, agent_at, planes_at}
+use Rattle.crowd_data.specs.Run.{Follow, IsMoved, IsNext, IsRun, Snapshot, after_posts, body_at, crowd_of}
 use Rattle.crowd_data.specs.Scenario.{Parts}
 use Rattle.planar_program.proofs.OneValue.{nearest-rounded}
 use Rattle.run_law.proofs.SomeMark.{crowded_or_not}
 
 -- ---- advice
 
-module _ (segments : List Segment) (crowd : List Agent) (who : ℕ) where
+module _ (scenario : Parts) (crowd : List Agent) (who : ℕ) where
   -- a velocity, a mark and a relief, but for crowding
   abbrev Way : V2 → Mark → ℕ → Type 0
-  Way vel mark relief = StandsStill segments crowd who vel mark relief ⊎ GivesWay segments crowd who vel mark relief
+  Way vel mark relief = StandsStill scenario crowd who vel mark relief ⊎ GivesWay scenario crowd who vel mark relief
 
   -- no smaller relief does
-  no_less : (vel other_vel : V2) (mark other_mark : Mark) (relief other : ℕ) → GivesWay segments crowd who vel mark relief → GivesWay segments crowd who other_vel other_mark other → other < relief → ⊥
+  no_less : (vel other_vel : V2) (mark other_mark : Mark) (relief other : ℕ) → GivesWay scenario crowd who vel mark relief → GivesWay scenario crowd who other_vel other_mark other → other < relief → ⊥
   no_less vel other_vel mark other_mark relief other one two less = one.least other less two.nearest.0 two.nearest.1.meets
 
-  one_relief : (vel other_vel : V2) (mark other_mark : Mark) (relief other : ℕ) → GivesWay segments crowd who vel mark relief → GivesWay segments crowd who other_vel other_mark other → relief ≡ other
+  one_relief : (vel other_vel : V2) (mark other_mark : Mark) (relief other : ℕ) → GivesWay scenario crowd who vel mark relief → GivesWay scenario crowd who other_vel other_mark other → relief ≡ other
   one_relief vel other_vel mark other_mark relief other one two = ⊎_elim
       (λ less. absurd (no_less other_vel vel other_mark mark other relief two one less))
       (λ more. ⊎_elim (λ less. absurd (no_less vel other_vel mark other_mark relief other one two less)) (λ least. omega (arith, more, least)) (cases_lt other relief))
       (cases_lt relief other)
 
-  one_plain : (vel other_vel : V2) (mark other_mark : Mark) (relief other : ℕ) → GivesWay segments crowd who vel mark relief → GivesWay segments crowd who other_vel other_mark other → relief ≡ other → mark ≡ other_mark
+  one_plain : (vel other_vel : V2) (mark other_mark : Mark) (relief other : ℕ) → GivesWay scenario crowd who vel mark relief → GivesWay scenario crowd who other_vel other_mark other → relief ≡ other → mark ≡ other_mark
   one_plain vel other_vel mark other_mark relief other one two e = ⊎_elim
       (λ none. one.feasible none ∙ sym (two.feasible (sym e ∙ none)))
       (λ some. one.fallback some ∙ sym (two.fallback (λ none. some (e ∙ none))))
@@ -44,8 +43,8 @@ module _ (segments : List Segment) (crowd : List Agent) (who : ℕ) where
   one_way vel other_vel mark other_mark relief other (inr one) (inl two) = absurd (two.no_room one.room.0 one.room.1)
   one_way vel other_vel mark other_mark relief other (inr one) (inr two) =
       let e = one_relief vel other_vel mark other_mark relief other one two in
-      let there = subst (λ d. GivesWay segments crowd who other_vel other_mark d) (sym e) two in (
-        one.nearest.2 ∙ nearest-rounded (planes_at segments crowd who relief) (agent_at crowd who).pref one.nearest.0 there.nearest.0 one.nearest.1 there.nearest.1 ∙ sym there.nearest.2,
+      let there = subst (λ d. GivesWay scenario crowd who other_vel other_mark d) (sym e) two in (
+        one.nearest.2 ∙ nearest-rounded (planes_at scenario crowd who relief) (agent_at crowd who).pref one.nearest.0 there.nearest.0 one.nearest.1 there.nearest.1 ∙ sym there.nearest.2,
         one_plain vel other_vel mark other_mark relief other one two e,
         e,
       )
@@ -56,7 +55,7 @@ module _ (segments : List Segment) (crowd : List Agent) (who : ℕ) where
       (λ roomy. one.otherwise roomy ∙ sym (two.otherwise roomy))
       (crowded_or_not crowd who)
 
-  pub one_advice : (vel other_vel : V2) (mark other_mark : Mark) (relief other : ℕ) → IsAdvice segments crowd who vel mark relief → IsAdvice segments crowd who other_vel other_mark other
+  pub one_advice : (vel other_vel : V2) (mark other_mark : Mark) (relief other : ℕ) → IsAdvice scenario crowd who vel mark relief → IsAdvice scenario crowd who other_vel other_mark other
       → (vel ≡ other_vel) × (mark ≡ other_mark) × (relief ≡ other)
   one_advice vel other_vel mark other_mark relief other (plain, way, marked) (other_plain, other_way, other_marked) =
       let (v, p, r) = one_way vel other_vel plain other_plain relief other way other_way in
@@ -66,7 +65,7 @@ module _ (segments : List Segment) (crowd : List Agent) (who : ℕ) where
 
 one_body : (scenario : Parts) (crowd : List Agent) (who : ℕ) (before after other : Body) → IsMoved scenario crowd who before after → IsMoved scenario crowd who before other → after ≡ other
 one_body scenario crowd who before after other one two =
-    let (vel, mark, relief) = one_advice scenario.segments crowd who after.vel other.vel after.mark other.mark after.relief other.relief one.advice two.advice in
+    let (vel, mark, relief) = one_advice scenario crowd who after.vel other.vel after.mark other.mark after.relief other.relief one.advice two.advice in
     let agent = one.agent ∙ sym two.agent in
     let pref = one.pref ∙ sym two.pref in
     let at = one.pos ∙ (λ i. plus before.pos (vel i)) ∙ sym two.pos in

@@ -48,6 +48,9 @@ module _ (scenario : Parts) (frame : Snapshot) (posts : List Post) (next : Snaps
   abbrev tau : ℕ → ℕ → ℕ
   tau a b = joint_horizon scenario a b
 
+  abbrev weight : ℕ → ℕ
+  weight who = (own who).weight
+
   built : (who : ℕ) → who < length scenario.agents → IsAgent (own who)
   built who h = valid.agents who nobody h
 
@@ -58,7 +61,7 @@ module _ (scenario : Parts) (frame : Snapshot) (posts : List Post) (next : Snaps
   pub slow : (who : ℕ) → who < length scenario.agents → square (vel_in next who) ≤ℤ (pos (own who).speed *ℤ pos (own who).speed)
   slow who h =
       subst (λ (speed : ℕ). square (vel_in next who) ≤ℤ (pos speed *ℤ pos speed)) (ap (λ (agent : Agent). agent.speed) (agent_is scenario posts frame sound who h))
-      (advice_within scenario.segments crowd who (vel_in next who) (body_at next.bodies who).mark (body_at next.bodies who).relief (moved who h).advice)
+      (advice_within scenario crowd who (vel_in next who) (body_at next.bodies who).mark (body_at next.bodies who).relief (moved who h).advice)
 
   -- ---- who sees whom
 
@@ -67,7 +70,7 @@ module _ (scenario : Parts) (frame : Snapshot) (posts : List Post) (next : Snaps
       → Contains (neighbours_of crowd who) other
   sees who other h k ne feasible near =
       sees_near crowd who other
-      (advice_roomy scenario.segments crowd who (vel_in next who) (body_at next.bodies who).mark (body_at next.bodies who).relief (moved who h).advice feasible)
+      (advice_roomy scenario crowd who (vel_in next who) (body_at next.bodies who).mark (body_at next.bodies who).relief (moved who h).advice feasible)
       (subst (λ (n : ℕ). other < n) (sym (places_count scenario posts frame sound)) k) ne
       (subst (λ (p : Place). IsNear p (place_at (map place_of crowd) other)) (sym (place_is scenario posts frame sound who h))
       (subst (λ (p : Place). IsNear (place who) p) (sym (place_is scenario posts frame sound other k)) near))
@@ -113,13 +116,13 @@ module _ (scenario : Parts) (frame : Snapshot) (posts : List Post) (next : Snaps
   meets : (who other : ℕ) (share : Plane) → who < length scenario.agents → (body_at next.bodies who).mark ≡ Feasible → Contains (neighbours_of crowd who) other
       → share_against crowd who other ≡ drawn_of share → IsIn share (whole (vel_in next who))
   meets who other share h feasible seen =
-      feasible_meets scenario.segments crowd who (vel_in next who) (body_at next.bodies who).mark (body_at next.bodies who).relief other share (moved who h).advice feasible seen
+      feasible_meets scenario crowd who (vel_in next who) (body_at next.bodies who).mark (body_at next.bodies who).relief other share (moved who h).advice feasible seen
 
   shares_met : (a b : ℕ) → a < length scenario.agents → b < length scenario.agents → a < b → BothFeasible next a b → Sighted a b
-      → IsIn (lower_share (disc a) (disc b) (tau a b)) (whole (vel_in next a)) × IsIn (higher_share (disc a) (disc b) (tau a b)) (whole (vel_in next b))
+      → IsIn (lower_share (disc a) (disc b) (tau a b) (weight a) (weight b)) (whole (vel_in next a)) × IsIn (higher_share (disc a) (disc b) (tau a b) (weight a) (weight b)) (whole (vel_in next b))
   shares_met a b ha hb order both seen = (
-    meets a b (lower_share (disc a) (disc b) (tau a b)) ha both.0 seen.0 (lower_is scenario posts frame sound a b ha hb order),
-    meets b a (higher_share (disc a) (disc b) (tau a b)) hb both.1 seen.1 (higher_is scenario posts frame sound a b ha hb order),
+    meets a b (lower_share (disc a) (disc b) (tau a b) (weight a) (weight b)) ha both.0 seen.0 (lower_is scenario posts frame sound a b ha hb order),
+    meets b a (higher_share (disc a) (disc b) (tau a b) (weight a) (weight b)) hb both.1 seen.1 (higher_is scenario posts frame sound a b ha hb order),
   )
 
   -- far pairs, whatever their marks
@@ -133,7 +136,7 @@ module _ (scenario : Parts) (frame : Snapshot) (posts : List Post) (next : Snaps
   near_step a b ha hb order apart both near =
       let seen = sighted a b ha hb order both near in
       let met = shares_met a b ha hb order both seen in
-      step_apart (disc a) (disc b) (tau a b) (vel_in next a) (vel_in next b) (pair_is a b ha hb seen.0) apart met.0 met.1
+      step_apart (disc a) (disc b) (tau a b) (weight a) (weight b) (vel_in next a) (vel_in next b) (pair_is a b ha hb seen.0) apart met.0 met.1
 
   -- and all that are apart
   any_step : (a b : ℕ) → a < length scenario.agents → b < length scenario.agents → a < b → AreApart scenario frame a b → BothFeasible next a b
@@ -160,7 +163,7 @@ module _ (scenario : Parts) (frame : Snapshot) (posts : List Post) (next : Snaps
       let met = shares_met a b ha hb order both (sighted a b ha hb order both (overlap_is_near a b over)) in
       subst (λ (at : V2). IsApart at (at_in next b) (radii scenario a b)) (moved_from a ha)
       (subst (λ (at : V2). IsApart (plus (at_in frame a) (vel_in next a)) at (radii scenario a b)) (moved_from b hb)
-      (end_apart (disc a) (disc b) (tau a b) (vel_in next a) (vel_in next b) over met.0 met.1))
+      (end_apart (disc a) (disc b) (tau a b) (weight a) (weight b) (vel_in next a) (vel_in next b) over met.0 met.1))
 
   -- neighbours, throughout the smaller horizon
   horizon_step : (a b : ℕ) → a < length scenario.agents → b < length scenario.agents → a < b → AreApart scenario frame a b → BothFeasible next a b → SeeEachOther scenario frame a b
@@ -169,7 +172,7 @@ module _ (scenario : Parts) (frame : Snapshot) (posts : List Post) (next : Snaps
       let sees_b = subst (λ (seen : List ℕ). Contains seen b) (neighbours_are scenario posts frame sound a ha) see.0 in
       let sees_a = subst (λ (seen : List ℕ). Contains seen a) (neighbours_are scenario posts frame sound b hb) see.1 in
       let met = shares_met a b ha hb order both (sees_b, sees_a) in
-      horizon_apart (disc a) (disc b) (tau a b) (vel_in next a) (vel_in next b) (pair_is a b ha hb sees_b) apart met.0 met.1
+      horizon_apart (disc a) (disc b) (tau a b) (weight a) (weight b) (vel_in next a) (vel_in next b) (pair_is a b ha hb sees_b) apart met.0 met.1
 
   -- ---- as the definitions say it
 

@@ -1,15 +1,12 @@
 -- Every step from a sound frame is safe and leads to a sound frame, and so every run is safe.
-use Rattle.std.proofs.Common.{◌≡◌, ◌∙◌, ◌<◌, List, [], ◌∷◌, length, sym, ap, subst, arith, ℕ, pos, ◌*ℤ◌, ◌≤ℤ◌}
-use Rattle.std.specs.List.{All}
+use Rattle.std.proofs.Common.{◌∙◌, ◌<◌, List, [], ◌∷◌, length, sym, subst, arith, ℕ}
 use Rattle.std.proofs.lemmas.List.Elements.{All-cons, All-from_get_or, All-nil}
-use Rattle.fixed_vec.specs.Vector.{square}
-use Rattle.crowd_data.specs.declared.agent.Agent.{Agent}
 use Rattle.crowd_data.specs.declared.frame.Body.{Body}
 use Rattle.crowd_data.specs.declared.post.Post.{Post}
-use Rattle.crowd_data.specs.Advice.{agent_at, nobody}
+use Rattle.crowd_data.specs.Advice.{nobody}
 use Rattle.crowd_data.specs.Limits.{IsVelocity}
-use Rattle.crowd_data.specs.Run.{Follow, IsNext, IsRun, Snapshot, no_body, start_of}
-use Rattle.crowd_data.specs.SafeSteps.{ClearFrame, EachStep, IsSafeRun, IsSafeStep, vel_in}
+use Rattle.crowd_data.specs.Run.{Follow, IsNext, IsRun, Snapshot, no_body}
+use Rattle.crowd_data.specs.SafeSteps.{ClearFrame, IsSafeRun, IsSafeStep, vel_in}
 use Rattle.crowd_data.specs.Scenario.{IsValid, Parts}
 use Rattle.run_law.proofs.OffWalls.{step_clear, step_off}
 use Rattle.run_law.proofs.PairSteps.{pairs_keep_apart, slow}

@@ -1,21 +1,20 @@
 -- No soft half-plane of an agent with some radius has a zero normal, whatever it is taken against.
 use Rattle.std.proofs.Common.{◌≡◌, ℕ, ◌+◌, ◌≤◌, Bool, true, false, cond, ltb, List, [], ◌∷◌, get_or, All, refl, sym, subst, arith, ℤ, pos, neg_ℤ, ◌*ℤ◌, ◌≤ℤ◌, ◌<ℤ◌}
 use Rattle.std.specs.Prelude.{int_lt, min}
-use Rattle.std.specs.Ordering.{int_eq}
 use Rattle.std.proofs.lemmas.Int.{ints}
 use Rattle.std.proofs.lemmas.List.Elements.{All-map}
-use Rattle.exact_algebra.proofs.Order.{gap_nonneg, product_nonneg, square_nonneg, sum_nonneg}
-use Rattle.exact_algebra.proofs.Ring.{equal, quotes, shown}
+use Rattle.exact_algebra.proofs.Order.{gap_nonneg, product_nonneg, sum_nonneg}
+use Rattle.exact_algebra.proofs.Ring.{quotes, shown}
 use Rattle.exact_algebra.proofs.Tests.{both_of, lt_false, lt_true}
 use Rattle.fixed_vec.specs.declared.vector.V2.{V2}
-use Rattle.fixed_vec.specs.Vector.{cross, dot, minus, opposite, perp, square, times}
+use Rattle.fixed_vec.specs.Vector.{cross, dot, minus, perp, square, times}
 use Rattle.fixed_vec.specs.HalfPlane.{Plane}
 use Rattle.fixed_vec.proofs.Squares.{square-opposite}
 use Rattle.crowd_data.specs.declared.agent.Agent.{Agent}
 use Rattle.crowd_data.specs.declared.pair.Disc.{Disc}
 use Rattle.crowd_data.specs.declared.pair.Region.TheVariants.{Arc, Left, Right, Overlap}
 use Rattle.crowd_data.specs.Advice.{agent_at, disc_of, neighbours_of, share_against, soft_planes}
-use Rattle.crowd_data.specs.Pairs.{from_cutoff, higher_share, is_arc, is_overlap, combined_radius, leg_length, leg_normal, lower_share, relative_position, overlap_normal, relative_in, relative_plane, relative_velocity}
+use Rattle.crowd_data.specs.Pairs.{from_cutoff, higher_share, is_arc, is_overlap, combined_radius, leg_length, leg_normal, lower_share, relative_position, relative_in, relative_plane}
 use Rattle.crowd_data.proofs.PairNormals.{overlap_normal-nonzero}
 use Rattle.separation_law.proofs.Borders.{normal_nonzero}
 
@@ -51,8 +50,8 @@ module _ (low high : Disc) (tau : ℕ) (some : 1 ≤ low.radius + high.radius) w
 
 -- ---- the shares
 
-higher_nonzero : (low high : Disc) (tau : ℕ) → 1 ≤ low.radius + high.radius → IsLong (higher_share low high tau)
-higher_nonzero low high tau some = subst (λ z. pos 0 <ℤ z) (sym (square-opposite (relative_plane low high tau).n)) (relative_nonzero low high tau some)
+higher_nonzero : (low high : Disc) (tau low_weight high_weight : ℕ) → 1 ≤ low.radius + high.radius → IsLong (higher_share low high tau low_weight high_weight)
+higher_nonzero low high tau low_weight high_weight some = subst (λ z. pos 0 <ℤ z) (sym (square-opposite (relative_plane low high tau).n)) (relative_nonzero low high tau some)
 
 module _ (crowd : List Agent) (who : ℕ) (some : 1 ≤ (agent_at crowd who).radius) where
   share_nonzero : (other : ℕ) → IsLong (share_against crowd who other)
@@ -64,9 +63,9 @@ module _ (crowd : List Agent) (who : ℕ) (some : 1 ≤ (agent_at crowd who).rad
       b : Disc
       b = disc_of (agent_at crowd other)
 
-      by : (t : Bool) → IsLong (cond t (lower_share a b (min (agent_at crowd who).horizon (agent_at crowd other).horizon)) (higher_share b a (min (agent_at crowd other).horizon (agent_at crowd who).horizon)))
+      by : (t : Bool) → IsLong (cond t (lower_share a b (min (agent_at crowd who).horizon (agent_at crowd other).horizon) (agent_at crowd who).weight (agent_at crowd other).weight) (higher_share b a (min (agent_at crowd other).horizon (agent_at crowd who).horizon) (agent_at crowd other).weight (agent_at crowd who).weight))
       by true = relative_nonzero a b (min (agent_at crowd who).horizon (agent_at crowd other).horizon) (omega arith)
-      by false = higher_nonzero b a (min (agent_at crowd other).horizon (agent_at crowd who).horizon) (omega arith)
+      by false = higher_nonzero b a (min (agent_at crowd other).horizon (agent_at crowd who).horizon) (agent_at crowd other).weight (agent_at crowd who).weight (omega arith)
 
   pub soft_nonzero : All IsLong (soft_planes crowd who)
   soft_nonzero = All-map IsLong (share_against crowd who) (neighbours_of crowd who) (λ k other below. share_nonzero (get_or (neighbours_of crowd who) k other))

@@ -1,5 +1,5 @@
 -- Each frame with a body for each agent and a step left has a next one, whatever is posted.
-use Rattle.std.proofs.Common.{◌≡◌, ◌∙◌, ◌⊎◌, ⊎_elim, ℕ, zero, suc, ◌<◌, ◌+◌, ◌≤◌, List, [], ◌∷◌, ◌++◌, length, refl, ap, subst, arith}
+use Rattle.std.proofs.Common.{◌≡◌, ◌∙◌, ⊎_elim, ℕ, zero, suc, ◌<◌, ◌+◌, ◌≤◌, List, [], ◌∷◌, ◌++◌, length, refl, ap, subst, arith}
 use Rattle.std.proofs.lemmas.Bool.{cases_lt}
 use Rattle.std.proofs.lemmas.List.{get_or_append_left, get_or_push, length_push}
 use Rattle.crowd_data.specs.declared.agent.Agent.{Agent}
@@ -43,8 +43,8 @@ module _ (scenario : Parts) (bodies : List Body) (valid : IsValid scenario) (ful
       let same = ap (λ (agent : Agent). agent.radius) (agent_at-crowd_of scenario.agents bodies who here full) in
       omega (arith, same, (valid.agents who nobody here).build.some_radius)
 
-  advice_of : (who : ℕ) → who < length bodies → HasAdvice scenario.segments crowd who
-  advice_of who h = some_advice scenario.segments crowd who (soft_nonzero crowd who (some_radius who h))
+  advice_of : (who : ℕ) → who < length bodies → HasAdvice scenario crowd who
+  advice_of who h = some_advice scenario crowd who (soft_nonzero crowd who (some_radius who h))
 
   some_moved : (count : ℕ) → count ≤ length bodies → (moved : List Body) × (length moved ≡ count) × AreMoved moved count
   some_moved zero h = ([], refl, each_none MovesTo [])

@@ -1,15 +1,13 @@
 -- The agents of a scenario as they stand in a frame: what the advice takes from the crowd after the posts
 -- is the build of the scenario, and the position and the velocity of the frame.
-use Rattle.std.proofs.Common.{◌≡◌, ◌∙◌, ◌<◌, ℕ, List, map, length, All, sym, ap, arith}
+use Rattle.std.proofs.Common.{◌≡◌, ◌∙◌, ◌<◌, ℕ, List, map, length, sym, ap, arith}
 use Rattle.std.specs.Prelude.{min}
 use Rattle.fixed_vec.specs.HalfPlane.{drawn_of}
 use Rattle.crowd_data.specs.declared.agent.Agent.{Agent}
-use Rattle.crowd_data.specs.declared.frame.Body.{Body}
 use Rattle.crowd_data.specs.declared.pair.Disc.{Disc}
 use Rattle.crowd_data.specs.declared.pair.Place.{Place}
 use Rattle.crowd_data.specs.declared.post.Post.{Post}
 use Rattle.crowd_data.specs.Advice.{agent_at, disc_of, neighbours_of, place_of, share_against}
-use Rattle.crowd_data.specs.Limits.{IsVelocity}
 use Rattle.crowd_data.specs.Neighbours.{Seen, neighbours, place_at}
 use Rattle.crowd_data.specs.Pairs.{higher_share, lower_share}
 use Rattle.crowd_data.specs.Run.{Snapshot, after_posts, body_at, crowd_of, standing}
@@ -19,7 +17,6 @@ use Rattle.crowd_data.proofs.Crowds.{agent_at-crowd_of, length-places, place_at-
 use Rattle.crowd_data.proofs.Posts.{length-after_posts, places-after_posts, pos-after_posts, vel-after_posts}
 use Rattle.crowd_data.proofs.Shares.{higher_against, lower_against}
 use Rattle.run_law.proofs.Sound.{IsSound}
-use Rattle.std.proofs.lemmas.List.{length-map}
 
 -- an agent as a moving disc
 abbrev pub disc_in : Parts → Snapshot → ℕ → Disc
@@ -69,6 +66,9 @@ module _ (scenario : Parts) (posts : List Post) (frame : Snapshot) (sound : IsSo
   horizon_is : (who : ℕ) → who < length scenario.agents → (agent_at (crowd_after scenario posts frame) who).horizon ≡ (agent_at scenario.agents who).horizon
   horizon_is who h = ap (λ (agent : Agent). agent.horizon) (agent_is who h)
 
+  weight_is : (who : ℕ) → who < length scenario.agents → (agent_at (crowd_after scenario posts frame) who).weight ≡ (agent_at scenario.agents who).weight
+  weight_is who h = ap (λ (agent : Agent). agent.weight) (agent_is who h)
+
   -- the neighbours before the posts are those after them
   pub neighbours_are : (who : ℕ) → who < length scenario.agents → neighbours_of (crowd_of scenario.agents frame.bodies) who ≡ neighbours_of (crowd_after scenario posts frame) who
   neighbours_are who h =
@@ -79,19 +79,23 @@ module _ (scenario : Parts) (posts : List Post) (frame : Snapshot) (sound : IsSo
 
   -- the shares of two agents, of which a has the lower number
   pub lower_is : (a b : ℕ) → a < length scenario.agents → b < length scenario.agents → a < b
-      → share_against (crowd_after scenario posts frame) a b ≡ drawn_of (lower_share (disc_in scenario frame a) (disc_in scenario frame b) (joint_horizon scenario a b))
+      → share_against (crowd_after scenario posts frame) a b ≡ drawn_of (lower_share (disc_in scenario frame a) (disc_in scenario frame b) (joint_horizon scenario a b) (agent_at scenario.agents a).weight (agent_at scenario.agents b).weight)
   lower_is a b ha hb order =
       let low = disc_is a ha in
       let high = disc_is b hb in
       let low_horizon = horizon_is a ha in
       let high_horizon = horizon_is b hb in
-      lower_against (crowd_after scenario posts frame) a b order ∙ (λ i. drawn_of (lower_share (low i) (high i) (min (low_horizon i) (high_horizon i))))
+      let low_weight = weight_is a ha in
+      let high_weight = weight_is b hb in
+      lower_against (crowd_after scenario posts frame) a b order ∙ (λ i. drawn_of (lower_share (low i) (high i) (min (low_horizon i) (high_horizon i)) (low_weight i) (high_weight i)))
 
   pub higher_is : (a b : ℕ) → a < length scenario.agents → b < length scenario.agents → a < b
-      → share_against (crowd_after scenario posts frame) b a ≡ drawn_of (higher_share (disc_in scenario frame a) (disc_in scenario frame b) (joint_horizon scenario a b))
+      → share_against (crowd_after scenario posts frame) b a ≡ drawn_of (higher_share (disc_in scenario frame a) (disc_in scenario frame b) (joint_horizon scenario a b) (agent_at scenario.agents a).weight (agent_at scenario.agents b).weight)
   higher_is a b ha hb order =
       let low = disc_is a ha in
       let high = disc_is b hb in
       let low_horizon = horizon_is a ha in
       let high_horizon = horizon_is b hb in
-      higher_against (crowd_after scenario posts frame) b a (omega (arith, order)) ∙ (λ i. drawn_of (higher_share (low i) (high i) (min (low_horizon i) (high_horizon i))))
+      let low_weight = weight_is a ha in
+      let high_weight = weight_is b hb in
+      higher_against (crowd_after scenario posts frame) b a (omega (arith, order)) ∙ (λ i. drawn_of (higher_share (low i) (high i) (min (low_horizon i) (high_horizon i)) (low_weight i) (high_weight i)))

@@ -25,7 +25,7 @@ NextExists scenario = (frame : Snapshot) → (posts : List Post) → IsPresent s
 -- an agent of a crowd has one advice
 abbrev pub OneAdvice : Parts → Type 0
 OneAdvice scenario = (crowd : List Agent) → (who : ℕ) → (vel other_vel : V2) → (mark other_mark : Mark) → (relief other : ℕ)
-    → IsAdvice scenario.segments crowd who vel mark relief → IsAdvice scenario.segments crowd who other_vel other_mark other
+    → IsAdvice scenario crowd who vel mark relief → IsAdvice scenario crowd who other_vel other_mark other
     → (vel ≡ other_vel) × (mark ≡ other_mark) × (relief ≡ other)
 
 -- a frame has one next frame for a list of posts

@@ -7,6 +7,8 @@ use std::test::Fail;
 #[test]
 fn laws_hold_of_a_scenario(rt: HostRuntime) -> Result<(), Fail> {
     let scenario = Scenario::of(
+        1,
+        36,
         40,
         List::with_room(rt.alloc(), 0)?,
         List::with_room(rt.alloc(), 0)?,

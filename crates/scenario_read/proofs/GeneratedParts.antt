@@ -1,5 +1,5 @@
 -- Generated parts are those of a scenario.
-use Rattle.std.proofs.Common.{◌≡◌, ◌≢◌, ◌<◌, ◌≤◌, ◌+◌, ◌*◌, ◌/◌, ◌%◌, ℕ, zero, suc, List, [], ◌∷◌, length, sym, ap, subst, refl, arith, ℤ, pos, neg_ℤ, ◌+ℤ◌, ◌-ℤ◌, ◌*ℤ◌, ◌≤ℤ◌, unsigned_abs, ⊎_elim}
+use Rattle.std.proofs.Common.{◌≡◌, ◌≢◌, ◌<◌, ◌≤◌, ◌+◌, ◌*◌, ◌/◌, ◌%◌, ℕ, zero, suc, List, [], ◌∷◌, length, sym, ap, subst, refl, arith, ℤ, pos, neg_ℤ, ◌+ℤ◌, ◌-ℤ◌, ◌*ℤ◌, ◌≤ℤ◌, unsigned_abs, ⊎_elim, inl}
 use Rattle.std.specs.List.{All, AllPairs}
 use Rattle.std.proofs.Math.Nat.{div-lt_iff_lt-mul, mod-lt}
 use Rattle.std.proofs.lemmas.Int.{ints}
@@ -17,6 +17,7 @@ use Rattle.crowd_data.specs.declared.segment.Segment.{Segment}
 use Rattle.crowd_data.specs.declared.post.ScriptPost.{ScriptPost}
 use Rattle.crowd_data.specs.declared.post.Goal.{Goal}
 use Rattle.crowd_data.specs.Limits.{IsAgent, IsGoal, IsPosition, IsScriptPost, IsSegment, IsVelocity}
+use Rattle.crowd_data.specs.declared.limits.TheConstants.{FIRST_VERSION, PLAIN_RING}
 use Rattle.crowd_data.specs.Scenario.{IsValid, Parts}
 use Rattle.crowd_data.specs.Walls.{IsClear}
 use Rattle.scenario_read.specs.Generator.{coordinate, drawn, generated, generated_agent, generated_agents, generated_goal, generated_goals, generated_post, generated_posts, generated_segments, half_width, left_wall, lower_wall, right_wall, state_after, upper_wall, velocity}
@@ -39,6 +40,7 @@ record IsPlaced (side : ℕ) (agent : Agent) : Type 0 where
   x : IsInside side agent.pos.x
   y : IsInside side agent.pos.y
   radius : agent.radius ≤ 1000
+  plain : agent.weight ≡ 1
   fit : IsAgent agent
 
 inside_position : (side : ℕ) (v : V2) → side ≤ 100 → IsInside side v.x → IsInside side v.y → IsPosition v
@@ -58,6 +60,7 @@ agent_placed side number s some few cell =
       x = x;
       y = y;
       radius = omega (arith, radius);
+      plain = refl;
       fit =
           record {
             pos = inside_position side _ few x y;
@@ -74,6 +77,7 @@ agent_placed side number s some few cell =
                   horizon = omega arith;
                   some_wall_horizon = omega arith;
                   wall_horizon = omega arith;
+                  weight = (omega arith, omega arith);
                 };
           };
     }
@@ -267,6 +271,9 @@ generated_valid number agents steps some few few_steps =
     let placed = agents_placed side 0 agents number (some_columns agents some) columns (omega (arith, ceil_root_reaches agents)) in
     let s = state_after (6 * agents) number in
     record {
+      version = inl refl;
+      ring = inl refl;
+      plain = λ e. record { ring_is = refl; weights = λ k d h. (placed k d h).plain };
       steps = few_steps;
       agent_count = omega (arith, count);
       segment_count = four_segments side;
@@ -284,6 +291,6 @@ generated_valid number agents steps some few few_steps =
 pub parts_are : (number agents steps side state : ℕ) (crowd : List Agent) (segments : List Segment) (posts : List ScriptPost) (goals : List Goal) → side ≡ ceil_root agents
     → crowd ≡ generated_agents side 0 agents number → state ≡ state_after (6 * agents) number → segments ≡ generated_segments side
     → posts ≡ generated_posts agents 10 (steps / 10) state → goals ≡ generated_goals 0 crowd
-    → ◌≡◌ {A = Parts} (record { steps = steps; agents = crowd; segments = segments; posts = posts; goals = goals }) (generated number agents steps)
+    → ◌≡◌ {A = Parts} (record { version = FIRST_VERSION; ring = PLAIN_RING; steps = steps; agents = crowd; segments = segments; posts = posts; goals = goals }) (generated number agents steps)
 parts_are number agents steps side state crowd segments posts goals is_side is_crowd is_state is_segments is_posts is_goals =
     rw (is_goals, is_posts, is_segments, is_state, is_crowd, is_side) refl

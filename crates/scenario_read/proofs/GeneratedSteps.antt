@@ -47,6 +47,7 @@ pub agent_is : (side number s : ℕ) (at : V2) (radius speed t u v : ℕ) (pref 
       most = 10;
       horizon = 40;
       wall_horizon = 10;
+      weight = 1;
     } ≡ generated_agent side number s
 unfolding generated_agent state_after
 agent_is side number s at radius speed t u v pref is_at is_t is_u is_radius is_v is_speed is_pref =

@@ -8,7 +8,7 @@ use Rattle.scenario_read.specs.declared.record_fault.RecordFault.TheVariants.{No
 
 -- what the code holds, without its spare room and its table of agents that have a goal
 abbrev pub read_of : Reading → Read
-read_of p = record { begun = p.begun; steps = p.steps; agents = p.agents.items; segments = p.segments.items; posts = p.posts.items; goals = p.goals.items }
+read_of p = record { version = p.version; ring = p.ring; steps = p.steps; agents = p.agents.items; segments = p.segments.items; posts = p.posts.items; goals = p.goals.items }
 
 -- the call did what is defined: it added a record, or refused it for its cause
 abbrev pub Adds : Read → Read → Result (Unit {0}) RecordFault → Result Read Cause → Type 0

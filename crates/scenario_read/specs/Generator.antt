@@ -7,6 +7,7 @@ use Rattle.crowd_data.specs.declared.agent.Agent.{Agent}
 use Rattle.crowd_data.specs.declared.segment.Segment.{Segment}
 use Rattle.crowd_data.specs.declared.post.ScriptPost.{ScriptPost}
 use Rattle.crowd_data.specs.declared.post.Goal.{Goal}
+use Rattle.crowd_data.specs.declared.limits.TheConstants.{FIRST_VERSION, PLAIN_RING}
 use Rattle.crowd_data.specs.Scenario.{Parts}
 
 -- ---- the generator: its state is a number below 65537
@@ -50,6 +51,7 @@ generated_agent side number s =
       most = 10;
       horizon = 40;
       wall_horizon = 10;
+      weight = 1;
     }
 
 -- so many agents, numbered from here on
@@ -106,6 +108,8 @@ generated number agents steps =
     let side = ceil_root agents in
     let crowd = generated_agents side 0 agents number in
     record {
+      version = FIRST_VERSION;
+      ring = PLAIN_RING;
       steps = steps;
       agents = crowd;
       segments = generated_segments side;

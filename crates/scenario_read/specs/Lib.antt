@@ -6,6 +6,7 @@ pub mod Read
 pub mod AgentRecord
 pub mod SegmentRecord
 pub mod StepsRecord
+pub mod RingRecord
 pub mod PostRecord
 pub mod GoalRecord
 pub mod Reading

@@ -1,13 +1,19 @@
--- What was read so far.
-use Rattle.std.specs.Prelude.{ℕ, Bool, false, List, [], None}
+-- What was read so far. There is no version before the header.
+use Rattle.std.specs.Prelude.{◌≤◌, ℕ, List, [], None}
 use Rattle.std.specs.declared.option.Option.{Option}
 use Rattle.crowd_data.specs.declared.agent.Agent.{Agent}
 use Rattle.crowd_data.specs.declared.segment.Segment.{Segment}
 use Rattle.crowd_data.specs.declared.post.ScriptPost.{ScriptPost}
 use Rattle.crowd_data.specs.declared.post.Goal.{Goal}
+use Rattle.crowd_data.specs.declared.limits.TheConstants.{FIRST_VERSION, LATEST_VERSION}
+
+-- a version that is known
+abbrev pub IsKnown : ℕ → Type 0
+IsKnown version = (FIRST_VERSION ≤ version) × (version ≤ LATEST_VERSION)
 
 pub record Read : Type 0 where
-  pub begun : Bool
+  pub version : Option ℕ
+  pub ring : Option ℕ
   pub steps : Option ℕ
   pub agents : List Agent
   pub segments : List Segment
@@ -15,4 +21,4 @@ pub record Read : Type 0 where
   pub goals : List Goal
 
 abbrev pub nothing_read : Read
-nothing_read = record { begun = false; steps = None; agents = []; segments = []; posts = []; goals = [] }
+nothing_read = record { version = None; ring = None; steps = None; agents = []; segments = []; posts = []; goals = [] }

@@ -1,9 +1,10 @@
 -- How a scenario is read: a fold over the list of records, with the first cause that holds.
-use Rattle.std.specs.Prelude.{◌≡◌, ◌⊎◌, ℕ, ◌+◌, ◌==◌, ◌&&◌, Bool, true, if◌then◌else◌, List, [], ◌∷◌, length, Some, None, Result, Ok, Err, codes, slice_get, take as first_of, All}
+use Rattle.std.specs.Prelude.{◌≡◌, ◌⊎◌, ℕ, ◌+◌, ◌==◌, ◌&&◌, if◌then◌else◌, List, [], ◌∷◌, length, Some, None, Result, Ok, Err, codes, slice_get, take as first_of, All, unwrap_or}
 use Rattle.std.specs.declared.option.Option.{Option}
 use Rattle.std.specs.Str.{bytes_eq}
 use Rattle.crowd_data.specs.declared.agent.Agent.{Agent}
 use Rattle.crowd_data.specs.declared.segment.Segment.{Segment}
+use Rattle.crowd_data.specs.declared.limits.TheConstants.{FIRST_VERSION, LATEST_VERSION, PLAIN_RING}
 use Rattle.crowd_data.specs.Scenario.{Parts}
 use Rattle.crowd_data.specs.Walls.{IsClear}
 use Rattle.scenario_read.specs.declared.cause.Cause.{Cause}
@@ -16,40 +17,68 @@ use Rattle.scenario_read.specs.GoalRecord.{goal_of, with_goal}
 use Rattle.scenario_read.specs.PostRecord.{post_of, with_post}
 use Rattle.scenario_read.specs.Read.{Read, nothing_read}
 use Rattle.scenario_read.specs.Records.{Record}
+use Rattle.scenario_read.specs.RingRecord.{ring_of, with_ring}
 use Rattle.scenario_read.specs.SegmentRecord.{segment_of, with_segment}
 use Rattle.scenario_read.specs.StepsRecord.{steps_of, with_steps}
 use Rattle.scenario_read.specs.Values.{and_then}
 
 -- ---- the records one at a time
 
--- crowd,1
-abbrev pub is_header : Record → Bool
-is_header fields = (length fields == 2) && is_kind fields (codes "crowd") && bytes_eq (field_text fields 1) (codes "1")
+-- the version of a header: crowd,1 or crowd,2
+abbrev pub header_version : Record → Option ℕ
+header_version fields =
+    if (length fields == 2) && is_kind fields (codes "crowd")
+    then (if bytes_eq (field_text fields 1) (codes "1") then Some FIRST_VERSION
+    else if bytes_eq (field_text fields 1) (codes "2") then Some LATEST_VERSION
+    else None)
+    else None
 
--- one more record behind the header
-unfoldable pub with_kind : Read → Record → Result Read Cause
-with_kind p fields =
-    if is_kind fields (codes "agent") then and_then (agent_of fields) (with_agent p)
+-- the header, if it is one
+abbrev pub with_header : Read → Option ℕ → Result Read Cause
+with_header p None = Err NoHeader
+with_header p (Some version) = Ok (record p { version = Some version })
+
+-- one more record behind the header; version 1 knows of no ring
+unfoldable pub with_kind : Read → ℕ → Record → Result Read Cause
+with_kind p version fields =
+    if is_kind fields (codes "agent") then and_then (agent_of version fields) (with_agent p)
     else if is_kind fields (codes "segment") then and_then (segment_of fields) (with_segment p)
     else if is_kind fields (codes "steps") then and_then (steps_of fields) (with_steps p p.steps)
     else if is_kind fields (codes "post") then and_then (post_of fields) (with_post p)
     else if is_kind fields (codes "goal") then and_then (goal_of fields) (with_goal p)
+    else if (version == LATEST_VERSION) && is_kind fields (codes "ring") then and_then (ring_of fields) (with_ring p p.ring)
     else Err UnknownKind
 
--- one more record
+-- one more record, where the header was of this version, if there was one
+abbrev pub with_record_in : Read → Option ℕ → Record → Result Read Cause
+with_record_in p None fields = with_header p (header_version fields)
+with_record_in p (Some version) fields = with_kind p version fields
+
 unfoldable pub with_record : Read → Record → Result Read Cause
-with_record p fields =
-    if p.begun then with_kind p fields
-    else (if is_header fields then Ok (record p { begun = true }) else Err NoHeader)
+with_record p fields = with_record_in p p.version fields
 
--- the scenario with these steps, if there are any
-abbrev pub with_all : Read → Option ℕ → Result Parts Cause
-with_all p None = Err NoSteps
-with_all p (Some n) = Ok (record { steps = n; agents = p.agents; segments = p.segments; posts = p.posts; goals = p.goals })
+-- the scenario with these steps, if there are any; the ring is the plain one where no record says else
+abbrev pub with_all : Read → ℕ → Option ℕ → Result Parts Cause
+with_all p version None = Err NoSteps
+with_all p version (Some n) =
+    Ok
+    (record {
+      version = version;
+      ring = unwrap_or p.ring PLAIN_RING;
+      steps = n;
+      agents = p.agents;
+      segments = p.segments;
+      posts = p.posts;
+      goals = p.goals;
+    })
 
--- the end of the records
+-- the end of the records, where the header was of this version
+abbrev pub ended_in : Read → Option ℕ → Result Parts Cause
+ended_in p None = Err NoHeader
+ended_in p (Some version) = with_all p version p.steps
+
 unfoldable pub ended : Read → Result Parts Cause
-ended p = if p.begun then with_all p p.steps else Err NoHeader
+ended p = ended_in p p.version
 
 -- a cause with the number of its record
 abbrev pub numbered : {A : Type 0} → ℕ → Result A Cause → Result A (ℕ × Cause)

@@ -4,9 +4,9 @@
 /// Fields are numbered from 0; field 0 is the record's kind.
 #[derive(Clone, Copy, Debug, PartialEq, Eq)]
 pub enum Cause {
-    /// Record 0 is missing, or its fields aren't exactly `crowd` and `1`.
+    /// Record 0 is missing, or its fields aren't exactly `crowd` and `1`, or `crowd` and `2`.
     NoHeader,
-    /// The record's kind is none of those of a scenario.
+    /// The record's kind is none of those of a scenario of its version.
     UnknownKind,
     /// The record has not as many fields as its kind asks for.
     FieldCount,
@@ -16,6 +16,8 @@ pub enum Cause {
     OutOfRange { field: u32 },
     /// There is a `steps` record before this one.
     StepsTwice,
+    /// There is a `ring` record before this one.
+    RingTwice,
     /// There are as many records of this kind before this one as a scenario may have.
     TooMany,
     /// There is no `steps` record; for a `post` record, none before it.

@@ -9,7 +9,7 @@ use crate::part::Part;
 use crate::reading::Reading;
 use crate::refusal::Refusal;
 use crate::standing::first_on_segment;
-use crowd_data::Scenario;
+use crowd_data::{PLAIN_RING, Scenario};
 
 // The scenario of what was read, where the records end here.
 #[tactic(auto, unfolding(crate::specs::Reading::ended))]
@@ -17,12 +17,12 @@ fn finish(reading: Reading, count: u32) -> Result<Scenario, ScenarioFault>
     ensures accepted { IfOk result (EndsAccepted (numbered count (ended (read_of reading)))) }
     ensures refused { IfErr result (EndsRefused (numbered count (ended (read_of reading))) count) }
 {
-    if !reading.begun {
+    let Some(version) = reading.version else {
         return Err(ScenarioFault::At {
             index: count,
             cause: Cause::NoHeader,
         });
-    }
+    };
     let Some(steps) = reading.steps else {
         return Err(ScenarioFault::At {
             index: count,
@@ -39,6 +39,8 @@ fn finish(reading: Reading, count: u32) -> Result<Scenario, ScenarioFault>
         });
     }
     Ok(Scenario::of(
+        version,
+        reading.ring.unwrap_or(PLAIN_RING),
         steps,
         reading.agents,
         reading.segments,

@@ -7,7 +7,9 @@ ghost use Rattle.crowd_data.specs.declared.limits.TheConstants.{MOST_AGENTS, MOS
 ghost use Rattle.scenario_read.specs.Generator.{coordinate, generated, generated_agent, generated_agents, generated_goal, generated_goals, generated_post, generated_posts, generated_segments, place, state_after};
 
 use crate::draws::Draws;
-use crowd_data::{Agent, Goal, MOST_AGENTS, MOST_STEPS, Scenario, ScriptPost, Segment};
+use crowd_data::{
+    Agent, FIRST_VERSION, Goal, MOST_AGENTS, MOST_STEPS, PLAIN_RING, Scenario, ScriptPost, Segment,
+};
 use fixed_vec::{List, NoMemory, V2, ceil_root};
 use std::alloc::Global;
 
@@ -58,6 +60,7 @@ fn generate_agent(draws: &mut Draws, side: u32, number: u32) -> Agent
         most: 10,
         horizon: 40,
         wall_horizon: 10,
+        weight: 1,
     }
 }
 
@@ -169,7 +172,7 @@ fn generate_goals(alloc: Global, agents: &[Agent]) -> Result<List<Goal>, NoMemor
     Ok(goals)
 }
 
-/// The scenario that is generated from a number of at most 65,535, with 1 to 10,000 agents and at most
+/// The scenario of version 1 that is generated from a number of at most 65,535, with 1 to 10,000 agents and at most
 /// 100,000 steps: the agents at rest in the cells of a square grid, four walls round them, a post for
 /// each tenth frame, and a goal for each agent at the opposite place. `NoMemory` is answered only where
 /// memory runs out (documented, not proved).
@@ -187,5 +190,13 @@ pub fn generate(alloc: Global, number: u32, agents: u32, steps: u32) -> Result<S
     let segments = generate_segments(alloc, side)?;
     let posts = generate_posts(alloc, &mut draws, agents, steps)?;
     let goals = generate_goals(alloc, crowd.items())?;
-    Ok(Scenario::of(steps, crowd, segments, posts, goals))
+    Ok(Scenario::of(
+        FIRST_VERSION,
+        PLAIN_RING,
+        steps,
+        crowd,
+        segments,
+        posts,
+        goals,
+    ))
 }

@@ -39,6 +39,7 @@ fn one_agent_without_steps(rt: HostRuntime) -> Result<(), Fail> {
         assert_eq!(rt; agent.most, 10);
         assert_eq!(rt; agent.horizon, 40);
         assert_eq!(rt; agent.wall_horizon, 10);
+        assert_eq!(rt; agent.weight, 1);
     }
     let corners = [
         V2 { x: -5000, y: -5000 },

@@ -17,6 +17,7 @@ mod reading;
 mod record;
 mod record_fault;
 mod refusal;
+mod ring_record;
 mod segment_record;
 mod standing;
 mod steps_record;
@@ -33,3 +34,5 @@ pub use values::{count_in, vector_in};
 mod generator_tests;
 #[cfg(test)]
 mod tests;
+#[cfg(test)]
+mod version_tests;

@@ -87,7 +87,8 @@ fn read_until(alloc: Global, bytes: &[u8], stop: Option<&[u8]>) -> Result<Part, 
         .from_reader(alloc, bytes);
     let mut row = ByteRecord::new(alloc);
     let mut reading = Reading {
-        begun: false,
+        version: None,
+        ring: None,
         steps: None,
         agents: List::with_room(alloc, 0)?,
         segments: List::with_room(alloc, 0)?,

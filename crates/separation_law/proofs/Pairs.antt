@@ -89,22 +89,22 @@ times_minus : (t : ℤ) (u w : V2) → times t (minus u w) ≡ minus (times t u)
 times_minus t u w = λ i. record { x = spread t u.x w.x i; y = spread t u.y w.y i }
 
 -- the horizon law
-pub horizon_apart : (low high : Disc) (tau : ℕ) (low_vel high_vel : V2) → IsPair low high tau → IsApart low.pos high.pos (combined_radius low high)
-    → IsIn (lower_share low high tau) (whole low_vel) → IsIn (higher_share low high tau) (whole high_vel)
+pub horizon_apart : (low high : Disc) (tau a b : ℕ) (low_vel high_vel : V2) → IsPair low high tau → IsApart low.pos high.pos (combined_radius low high)
+    → IsIn (lower_share low high tau a b) (whole low_vel) → IsIn (higher_share low high tau a b) (whole high_vel)
     → ApartThroughout low.pos (times (pos tau) low_vel) high.pos (times (pos tau) high_vel) (combined_radius low high)
-horizon_apart low high tau low_vel high_vel h apart in_lower in_higher =
+horizon_apart low high tau a b low_vel high_vel h apart in_lower in_higher =
     apart_throughout low.pos (times (pos tau) low_vel) high.pos (times (pos tau) high_vel) (combined_radius low high)
     (subst (λ v. StaysOutside (relative_position low high) v (combined_radius low high)) (times_minus (pos tau) low_vel high_vel)
-    (relative_apart low high tau (minus low_vel high_vel) h apart (shares_add low high tau low_vel high_vel in_lower in_higher)))
+    (relative_apart low high tau (minus low_vel high_vel) h apart (shares_add low high tau a b low_vel high_vel in_lower in_higher)))
 
 -- the law of pairs, for the one step
-pub step_apart : (low high : Disc) (tau : ℕ) (low_vel high_vel : V2) → IsPair low high tau → IsApart low.pos high.pos (combined_radius low high)
-    → IsIn (lower_share low high tau) (whole low_vel) → IsIn (higher_share low high tau) (whole high_vel)
+pub step_apart : (low high : Disc) (tau a b : ℕ) (low_vel high_vel : V2) → IsPair low high tau → IsApart low.pos high.pos (combined_radius low high)
+    → IsIn (lower_share low high tau a b) (whole low_vel) → IsIn (higher_share low high tau a b) (whole high_vel)
     → ApartThroughout low.pos low_vel high.pos high_vel (combined_radius low high)
-step_apart low high tau low_vel high_vel h apart in_lower in_higher =
+step_apart low high tau a b low_vel high_vel h apart in_lower in_higher =
     apart_throughout low.pos low_vel high.pos high_vel (combined_radius low high)
     (part_of_way (relative_position low high) (minus low_vel high_vel) (combined_radius low high) (pos tau) (omega (arith, ints, h.some_tau))
-    (relative_apart low high tau (minus low_vel high_vel) h apart (shares_add low high tau low_vel high_vel in_lower in_higher)))
+    (relative_apart low high tau (minus low_vel high_vel) h apart (shares_add low high tau a b low_vel high_vel in_lower in_higher)))
 
 lt_unless : (a b : ℤ) → ¬ (b ≤ℤ a) → int_lt a b ≡ true
 lt_unless a b h = grind (arith, ints)
@@ -136,9 +136,9 @@ end_offset : (a b u w : V2) → square (minus (minus u w) (minus b a)) ≡ squar
 end_offset a b u w = equal (a.x ∷ a.y ∷ b.x ∷ b.y ∷ u.x ∷ u.y ∷ w.x ∷ w.y ∷ []) (search quotes depth 60 fits 80000) tt
 
 -- the law of pairs that overlap
-pub end_apart : (low high : Disc) (tau : ℕ) (low_vel high_vel : V2) → ¬ IsApart low.pos high.pos (combined_radius low high)
-    → IsIn (lower_share low high tau) (whole low_vel) → IsIn (higher_share low high tau) (whole high_vel)
+pub end_apart : (low high : Disc) (tau a b : ℕ) (low_vel high_vel : V2) → ¬ IsApart low.pos high.pos (combined_radius low high)
+    → IsIn (lower_share low high tau a b) (whole low_vel) → IsIn (higher_share low high tau a b) (whole high_vel)
     → IsApart (plus low.pos low_vel) (plus high.pos high_vel) (combined_radius low high)
-end_apart low high tau low_vel high_vel overlap in_lower in_higher =
+end_apart low high tau a b low_vel high_vel overlap in_lower in_higher =
     subst (λ z. (combined_radius low high *ℤ combined_radius low high) ≤ℤ z) (end_offset low.pos high.pos low_vel high_vel)
-    (relative_parts low high tau (minus low_vel high_vel) overlap (shares_add low high tau low_vel high_vel in_lower in_higher))
+    (relative_parts low high tau (minus low_vel high_vel) overlap (shares_add low high tau a b low_vel high_vel in_lower in_higher))

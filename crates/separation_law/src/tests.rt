@@ -16,7 +16,7 @@ fn laws_hold_of_worked_pairs() {
         vel: V2 { x: -200, y: 0 },
         radius: 500,
     };
-    pair_apart(&low, &high, 10, low.vel, high.vel);
+    pair_apart(&low, &high, 10, low.vel, high.vel, 1, 1);
 
     // Nearer, and not quite head on: the left leg. One turns left, the other one all but stops.
     let near = Disc {
@@ -24,7 +24,15 @@ fn laws_hold_of_worked_pairs() {
         vel: V2 { x: -200, y: -1 },
         radius: 500,
     };
-    pair_apart(&low, &near, 10, V2 { x: 0, y: 100 }, V2 { x: 2, y: 0 });
+    pair_apart(
+        &low,
+        &near,
+        10,
+        V2 { x: 0, y: 100 },
+        V2 { x: 2, y: 0 },
+        1,
+        1,
+    );
 
     // In one place: 500 units to each side are enough.
     let still = Disc {
@@ -38,6 +46,18 @@ fn laws_hold_of_worked_pairs() {
         10,
         V2 { x: 500, y: 0 },
         V2 { x: -500, y: 0 },
+        1,
+        1,
+    );
+    // Of the 1000 units, three parts of four fall to the one that weighs three times as much.
+    pair_apart_at_end(
+        &still,
+        &still,
+        10,
+        V2 { x: 750, y: 0 },
+        V2 { x: -250, y: 0 },
+        3,
+        1,
     );
 
     // One unit past being near: they may run at each other.
@@ -67,6 +87,7 @@ fn wall_law_holds_of_worked_segments(rt: HostRuntime) {
         most: 10,
         horizon: 10,
         wall_horizon: 10,
+        weight: 1,
     };
 
     // Abreast of a wall 1000 units away: 50 units per step come to touching it in 10 steps.

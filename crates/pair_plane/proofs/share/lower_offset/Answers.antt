@@ -6,9 +6,9 @@ use Rattle.pair_plane.proofs.share.lower_offset.Goals as goal
 pub returns : goal.returns
 returns c =
     let d = c.dot.ensures.small in
-    let h = c.half.ensures.small in
+    let h = c.lower_part.ensures.small in
     let e : FitsSigned w64 c.dot.result = omega (arith, ints) in
-    let f : FitsSigned w64 c.half.result = omega (arith, ints) in
-    let g : FitsSigned w64 (c.dot.result +ℤ c.half.result) = omega (arith, ints) in
+    let f : FitsSigned w64 c.lower_part.result = omega (arith, ints) in
+    let g : FitsSigned w64 (c.dot.result +ℤ c.lower_part.result) = omega (arith, ints) in
     let along = c.dot.ensures.value ∙ ap (λ n. dot n c.args.pair.now.low.vel) (c.normal.ensures.value ∙ ap (λ plane. plane.n) c.requires) in
-    simp to_z-of_z (λ i. along i +ℤ c.half.ensures.value i)
+    simp to_z-of_z (λ i. along i +ℤ c.lower_part.ensures.value i)

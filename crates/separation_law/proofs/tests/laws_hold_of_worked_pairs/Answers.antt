@@ -30,3 +30,9 @@ pair_apart_at_end-requires-clause-low_share c = rw (root 1) (omega (arith, ints)
 
 pub pair_apart_at_end-requires-clause-high_share : goal.pair_apart_at_end-requires-clause-high_share
 pair_apart_at_end-requires-clause-high_share c = rw (root 1) (omega (arith, ints))
+
+pub pair_apart_at_end-requires-2-clause-low_share : goal.pair_apart_at_end-requires-2-clause-low_share
+pair_apart_at_end-requires-2-clause-low_share c = rw (root 1) (omega (arith, ints))
+
+pub pair_apart_at_end-requires-2-clause-high_share : goal.pair_apart_at_end-requires-2-clause-high_share
+pair_apart_at_end-requires-2-clause-high_share c = rw (root 1) (omega (arith, ints))
