@@ -1,7 +1,6 @@
 -- The shares of an agent that is present: which pairs they are made from, and how large they are.
-use Rattle.std.proofs.Common.{◌≡◌, ◌<◌, ◌≤◌, ◌^◌, ℕ, Bool, true, false, cond, ltb, List, [], ◌∷◌, length, All, sym, ap, subst, arith, unsigned_abs}
+use Rattle.std.proofs.Common.{◌≡◌, ◌<◌, ◌^◌, ℕ, Bool, true, false, cond, ltb, List, [], ◌∷◌, length, All, sym, ap, subst, arith, unsigned_abs}
 use Rattle.std.specs.Prelude.{min}
-use Rattle.std.proofs.lemmas.Bool.{le-ltb, lt-ltb}
 use Rattle.std.proofs.lemmas.Int.{ints}
 use Rattle.std.proofs.lemmas.List.Elements.{All-map, All-weaker}
 use Rattle.exact_algebra.proofs.Ring.{quotes, equal}
@@ -13,13 +12,12 @@ use Rattle.crowd_data.specs.declared.frame.Body.{Body}
 use Rattle.crowd_data.specs.Advice.{agent_at, disc_of, neighbours_of, nobody, share_against, soft_planes}
 use Rattle.crowd_data.specs.Limits.{IsBuild, IsVelocity}
 use Rattle.crowd_data.specs.Neighbours.{squared_gap}
-use Rattle.crowd_data.specs.Pairs.{IsPair, higher_share, lower_share}
-use Rattle.crowd_data.specs.Run.{body_at, crowd_of, no_body, standing}
-use Rattle.crowd_data.proofs.Crowds.{agent_at-crowd_of}
+use Rattle.crowd_data.specs.Pairs.{IsPair}
+use Rattle.crowd_data.specs.Run.{body_at, crowd_of, no_body}
+use Rattle.crowd_data.proofs.Crowds.{agent_at-crowd_of, length-crowd_of, standing_build}
 use Rattle.pair_plane.proofs.Shares.{higher_sized, lower_sized}
 use Rattle.pair_plane.proofs.Sized.{Sized, drawn_sized}
 use Rattle.agent_step.specs.Sight.{ArePresent, IsSeen}
-use Rattle.crowd_data.proofs.Crowds.{length-crowd_of}
 use Rattle.agent_step.proofs.Sight.{neighbours_seen}
 
 -- ---- pairs
@@ -48,42 +46,15 @@ squared_gap-turned a b =
     let e : square (minus a b) ≡ square (minus b a) = equal (a.x ∷ a.y ∷ b.x ∷ b.y ∷ []) (search quotes depth 40) tt in
     ap unsigned_abs e
 
-standing_build : (agent : Agent) (body : Body) → IsBuild agent → IsBuild (standing agent body)
-standing_build agent body h = record {
-  some_radius = h.some_radius;
-  radius = h.radius;
-  speed = h.speed;
-  range = h.range;
-  most = h.most;
-  some_horizon = h.some_horizon;
-  horizon = h.horizon;
-  some_wall_horizon = h.some_wall_horizon;
-  wall_horizon = h.wall_horizon;
-}
-
 pub present_as : (a b : List Agent) (x y : List Body) → a ≡ b → x ≡ y → ArePresent b y → ArePresent a x
 present_as a b x y e f h = subst (λ (a : List Agent). ArePresent a x) (sym e) (subst (λ (x : List Body). ArePresent b x) (sym f) h)
-
--- which share is taken
-chosen : (t : Bool) (x y : Plane) → t ≡ true → drawn_of (cond t x y) ≡ drawn_of x
-chosen t x y e = ap (λ t. drawn_of (cond t x y)) e
-
-left_out : (t : Bool) (x y : Plane) → t ≡ false → drawn_of (cond t x y) ≡ drawn_of y
-left_out t x y e = ap (λ t. drawn_of (cond t x y)) e
-
-pub lower_against : (crowd : List Agent) (who other : ℕ) → who < other
-    → share_against crowd who other
-    ≡ drawn_of (lower_share (disc_of (agent_at crowd who)) (disc_of (agent_at crowd other)) (min (agent_at crowd who).horizon (agent_at crowd other).horizon))
-lower_against crowd who other h = chosen (ltb who other) _ _ (lt-ltb who other h)
-
-pub higher_against : (crowd : List Agent) (who other : ℕ) → other ≤ who
-    → share_against crowd who other
-    ≡ drawn_of (higher_share (disc_of (agent_at crowd other)) (disc_of (agent_at crowd who)) (min (agent_at crowd other).horizon (agent_at crowd who).horizon))
-higher_against crowd who other h = left_out (ltb who other) _ _ (le-ltb who other h)
 
 module _ (agents : List Agent) (bodies : List Body) (present : ArePresent agents bodies) where
   horizon-at : (who : ℕ) → who < length agents → (agent_at agents who).horizon ≡ (agent_at (crowd_of agents bodies) who).horizon
   horizon-at who h = ap (λ (agent : Agent). agent.horizon) (sym (agent_at-crowd_of agents bodies who h present.count))
+
+  pub weight-at : (who : ℕ) → who < length agents → (agent_at agents who).weight ≡ (agent_at (crowd_of agents bodies) who).weight
+  weight-at who h = ap (λ (agent : Agent). agent.weight) (sym (agent_at-crowd_of agents bodies who h present.count))
 
   pub moves-at : (who : ℕ) → who < length agents → CanMove (agent_at (crowd_of agents bodies) who)
   moves-at who h =
@@ -114,7 +85,7 @@ module _ (agents : List Agent) (bodies : List Body) (present : ArePresent agents
 
     -- drawn in, the share is at most 200,585 lengths off
     share_sized : Sized (share_against (crowd_of agents bodies) who other) 200585
-    share_sized = either (ltb who other) _ _ (lower_sized _ _ _ lower_pair) (higher_sized _ _ _ higher_pair)
+    share_sized = either (ltb who other) _ _ (lower_sized _ _ _ _ _ lower_pair (moves-at other there).build.weight.0) (higher_sized _ _ _ _ _ higher_pair (moves-at who here).build.weight.0)
       where
         either : (t : Bool) (x y : Plane) → Sized x 200584 → Sized y 200584 → Sized (drawn_of (cond t x y)) 200585
         either true x y h k = drawn_sized x 200584 h
