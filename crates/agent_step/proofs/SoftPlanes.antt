@@ -45,6 +45,9 @@ module _ (agents : List Agent) (bodies : List Body) (present : ArePresent agents
   horizon-at : (who : ℕ) → who < length agents → (agent_at agents who).horizon ≡ (agent_at (crowd_of agents bodies) who).horizon
   horizon-at who h = ap (λ (agent : Agent). agent.horizon) (sym (agent_at-crowd_of agents bodies who h present.count))
 
+  pub weight-at : (who : ℕ) → who < length agents → (agent_at agents who).weight ≡ (agent_at (crowd_of agents bodies) who).weight
+  weight-at who h = ap (λ (agent : Agent). agent.weight) (sym (agent_at-crowd_of agents bodies who h present.count))
+
   pub moves-at : (who : ℕ) → who < length agents → CanMove (agent_at (crowd_of agents bodies) who)
   moves-at who h =
       subst CanMove (sym (agent_at-crowd_of agents bodies who h present.count))
@@ -74,7 +77,7 @@ module _ (agents : List Agent) (bodies : List Body) (present : ArePresent agents
 
     -- drawn in, the share is at most 200,585 lengths off
     share_sized : Sized (share_against (crowd_of agents bodies) who other) 200585
-    share_sized = either (ltb who other) _ _ (lower_sized _ _ _ lower_pair) (higher_sized _ _ _ higher_pair)
+    share_sized = either (ltb who other) _ _ (lower_sized _ _ _ _ _ lower_pair (moves-at other there).build.weight.0) (higher_sized _ _ _ _ _ higher_pair (moves-at who here).build.weight.0)
       where
         either : (t : Bool) (x y : Plane) → Sized x 200584 → Sized y 200584 → Sized (drawn_of (cond t x y)) 200585
         either true x y h k = drawn_sized x 200584 h
