@@ -17,7 +17,7 @@ use Rattle.frame_step.specs.Moved.{AreAllMoved, KeepsMoved, MovesTo}
 
 -- a body that takes the velocity, mark and relief of its advice, and moves by the velocity
 pub body_moved : (state : FrozenState) (frame : Snapshot) (who : ℕ) (d body : Body) (vel : V2) (mark : Mark) (relief : ℕ) → state.frame ≡ frame → who < length frame.bodies
-    → IsAdvice state.scenario.segments (agents_in state) who vel mark relief → IsVelocity vel → body ≡ moved_body vel mark relief (slice_index_or frame.bodies who d)
+    → IsAdvice state.scenario (agents_in state) who vel mark relief → IsVelocity vel → body ≡ moved_body vel mark relief (slice_index_or frame.bodies who d)
     → MovesTo state who body
 body_moved state frame who d body vel mark relief is h advice slow e =
     rw e (rw (get_or_default frame.bodies who d no_body h) (subst (λ (f : Snapshot). MovesTo state who (moved_body vel mark relief (body_at f.bodies who))) is

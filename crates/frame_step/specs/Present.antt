@@ -6,12 +6,12 @@ use Rattle.crowd_data.specs.declared.agent.Agent.{Agent}
 use Rattle.crowd_data.specs.declared.frame.Body.{Body}
 use Rattle.crowd_data.specs.declared.pair.Place.{Place}
 use Rattle.crowd_data.specs.Present.{IsPresent}
-use Rattle.crowd_data.specs.RingPlanes.{ring_planes}
 use Rattle.crowd_data.specs.Run.{Snapshot}
 use Rattle.crowd_data.specs.Scenario.{IsValid, Parts}
 use Rattle.agent_kdtree.specs.declared.tree.Tree.{Tree}
 use Rattle.agent_kdtree.specs.Stands.{HasRoomFor}
 use Rattle.agent_step.specs.declared.wall_blocks.WallBlocks.{WallBlocks}
+use Rattle.agent_step.specs.Frozen.{polygons_of}
 use Rattle.agent_step.specs.WallBlocks.{StandsForWalls}
 use Rattle.frame_step.specs.declared.team.Team.{Team}
 use Rattle.frame_step.specs.Workers.{IsTeam}
@@ -29,7 +29,7 @@ Holds count list = count ≤ length list.items + list.spare
 pub record IsReady (scenario : Parts) (frame : Snapshot) (made : List (List Plane)) (blocks : WallBlocks) (next : Held Body) (stand : Held Place) (index : Tree) (team : Team) : Type 0 where
   pub valid : IsValid scenario
   pub present : IsPresent scenario frame
-  pub polygons : made ≡ map (λ (agent : Agent). ring_planes agent.speed) scenario.agents
+  pub polygons : made ≡ polygons_of scenario
   pub walls : StandsForWalls blocks scenario.segments
   pub bodies : length next.items ≡ length scenario.agents
   pub places : Holds (length scenario.agents) stand

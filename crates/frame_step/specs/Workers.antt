@@ -1,7 +1,7 @@
 -- What a worker is before and after its part of a step, and what the workers are between steps.
 use Rattle.std.specs.Prelude.{◌≡◌, ℕ, ◌+◌, ◌-◌, ◌*◌, ◌≤◌, List, [], ◌++◌, length, All, IsSomeAnd}
 use Rattle.atomic_table.specs.Seated.{TableId}
-use Rattle.agent_step.specs.Frozen.{FrozenState}
+use Rattle.agent_step.specs.Frozen.{FrozenState, most_planes}
 use Rattle.crowd_data.specs.Scenario.{Parts}
 use Rattle.work_claim.specs.declared.view.RoundView.{RoundView}
 use Rattle.work_claim.specs.Names.{claimer_id, claimer_view, claims_id, root_id, root_view}
@@ -15,7 +15,7 @@ use Rattle.frame_step.specs.declared.team.Team.{Team}
 pub record HasRoom (scenario : Parts) (pieces : ℕ) (desk : Desk) : Type 0 where
   pub numbers : pieces ≤ length desk.drawn.items + desk.drawn.spare
   pub count : length desk.bodies.items ≡ length scenario.agents
-  pub planes : length scenario.segments + 100 ≤ desk.scratch
+  pub planes : most_planes (length scenario.segments) ≤ desk.scratch
 
 abbrev pub HasRoomFor : Parts → ℕ → Worker → Type 0
 HasRoomFor scenario pieces worker = HasRoom scenario pieces worker.desk
@@ -52,4 +52,4 @@ pub record IsTeam (scenario : Parts) (most : ℕ) (team : Team) : Type 0 where
   pub pieces : length scenario.agents ≤ (root_view team.root).pieces * agents_per_piece
   pub few : length team.workers.items ≤ 64
   pub room : All (HasRoomFor scenario (root_view team.root).pieces) team.workers.items
-  pub planes : length scenario.segments + 100 ≤ team.scratch
+  pub planes : most_planes (length scenario.segments) ≤ team.scratch

@@ -2,6 +2,7 @@
 ghost use Rattle.std.specs.Prelude.{◌≡◌, ◌<◌, ◌≤◌, ◌+◌, ◌*◌, length};
 ghost use Rattle.crowd_data.specs.Limits.{IsVelocity};
 ghost use Rattle.crowd_data.specs.Present.{IsBody};
+ghost use Rattle.agent_step.specs.Frozen.{most_planes};
 ghost use Rattle.crowd_data.specs.Run.{moved_body, snapshot_of};
 ghost use Rattle.frame_step.specs.Moved.{AreAllMoved, IsPieceMoved, KeepsMoved, MayStep, agents_per_piece};
 
@@ -38,7 +39,7 @@ pub(crate) fn move_piece(
 )
     requires step { MayStep crowd.now (snapshot_of frame.now) }
     requires bodies { length bodies.old.items ≡ length crowd.now.scenario.agents }
-    requires planes { length crowd.now.scenario.segments + 100 ≤ scratch.old }
+    requires planes { most_planes (length crowd.now.scenario.segments) ≤ scratch.old }
     ensures moved { IsPieceMoved crowd.now bodies.new.items piece }
     ensures others { KeepsMoved crowd.now bodies.old.items bodies.new.items }
     ensures count { length bodies.new.items ≡ length bodies.old.items }
@@ -73,7 +74,7 @@ pub(crate) fn move_alone<G: Gate>(
     requires step { MayStep crowd.now (snapshot_of frame.now) }
     requires bodies { length bodies.old.items ≡ length crowd.now.scenario.agents }
     requires few { length bodies.old.items ≤ 10000 }
-    requires planes { length crowd.now.scenario.segments + 100 ≤ scratch.old }
+    requires planes { most_planes (length crowd.now.scenario.segments) ≤ scratch.old }
     ensures moved { AreAllMoved crowd.now bodies.new.items }
     ensures planes { scratch.new ≡ scratch.old }
 {

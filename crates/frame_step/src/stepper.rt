@@ -53,7 +53,7 @@ impl Stepper {
         ensures frame { IfOk result (λ s. s.frame ≡ start_of scenario) }
     {
         let agents = scenario.agents().len();
-        let polygons = Polygons::open(alloc, scenario.agents())?;
+        let polygons = Polygons::open(alloc, &scenario)?;
         let walls = WallBlocks::open(alloc, scenario.segments())?;
         let team = Team::open(alloc, &scenario, workers)?;
         let frame = first_frame(alloc, &scenario)?;
