@@ -12,6 +12,10 @@ run_alone : command_of (codes "run" ∷ []) ≡ Some (command.Run 1)
 unfolding command_of options_after
 run_alone = refl
 
+live_with_workers : command_of (codes "live" ∷ codes "--workers=3" ∷ []) ≡ Some (command.Live 3)
+unfolding command_of options_after
+live_with_workers = refl
+
 leading_zeros : command_of (codes "run" ∷ codes "--workers" ∷ codes "0000000008" ∷ []) ≡ Some (command.Run 8)
 unfolding command_of options_after
 leading_zeros = refl

@@ -28,12 +28,14 @@ name_named name.Run = refl
 name_named name.Check = refl
 name_named name.Sample = refl
 name_named name.Soak = refl
+name_named name.Live = refl
 
 option_names : (n : Name) → are_names (options_for n) ≡ true
 option_names name.Run = refl
 option_names name.Check = refl
 option_names name.Sample = refl
 option_names name.Soak = refl
+option_names name.Live = refl
 
 -- words that ask for a command give it, and no others do
 pub asks : (words : List Text) (c : Command) → command_of words ≡ Some c → Asks words c

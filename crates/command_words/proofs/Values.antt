@@ -72,6 +72,7 @@ numbers_read name.Soak values c e =
     let (steps, steps_is, e₃) = followed _ _ c e₂ in
     ap₂ (λ a b. a && b) (needs _ _ _ number (values (codes "number")) number_is) (ap₂ (λ a b. a && b) (needs _ _ _ agents (values (codes "agents")) agents_is)
     (ap₂ (λ a b. a && b) (needs _ _ _ steps (values (codes "steps")) steps_is) (one _ (needs _ _ _ _ (values (codes "workers")) (mapped _ _ c e₃).1))))
+numbers_read name.Live values c e = one _ (needs _ _ _ _ (values (codes "workers")) (mapped _ _ c e).1)
 
 -- ---- the numbers of all options that were given
 

@@ -15,9 +15,10 @@ text_of name.Run = codes "run"
 text_of name.Check = codes "check"
 text_of name.Sample = codes "sample"
 text_of name.Soak = codes "soak"
+text_of name.Live = codes "live"
 
 abbrev pub all_names : List Name
-all_names = name.Run ∷ name.Check ∷ name.Sample ∷ name.Soak ∷ []
+all_names = name.Run ∷ name.Check ∷ name.Sample ∷ name.Soak ∷ name.Live ∷ []
 
 -- what the first word names
 abbrev pub name_of : Text → Option Name
@@ -36,6 +37,7 @@ options_for name.Run = optional (codes "workers") ∷ []
 options_for name.Check = []
 options_for name.Sample = required (codes "number") ∷ required (codes "agents") ∷ required (codes "steps") ∷ []
 options_for name.Soak = required (codes "number") ∷ required (codes "agents") ∷ required (codes "steps") ∷ optional (codes "workers") ∷ []
+options_for name.Live = optional (codes "workers") ∷ []
 
 -- ---- their numbers, where each option has this value or none
 
@@ -64,6 +66,7 @@ command_with name.Run value = option_map (λ workers. command.Run workers) (work
 command_with name.Check value = Some command.Check
 command_with name.Sample value = with_crowd value (λ number agents steps. Some (command.Sample number agents steps))
 command_with name.Soak value = with_crowd value (λ number agents steps. option_map (λ workers. command.Soak number agents steps workers) (workers_in value))
+command_with name.Live value = option_map (λ workers. command.Live workers) (workers_in value)
 
 -- the first word names the command, and those behind it give its options
 abbrev pub named_command : Option Name → List Text → Option Command

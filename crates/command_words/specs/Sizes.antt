@@ -18,3 +18,4 @@ IsSized (command.Run workers) = IsWorkers workers
 IsSized command.Check = Unit {0}
 IsSized (command.Sample number agents steps) = IsCrowd number agents steps
 IsSized (command.Soak number agents steps workers) = IsCrowd number agents steps × IsWorkers workers
+IsSized (command.Live workers) = IsWorkers workers

@@ -20,6 +20,7 @@ use std::alloc::Global;
 /// | `check` | none |
 /// | `sample` | `--number N`, 0 to 65,535; `--agents N`, 1 to 10,000; `--steps N`, 0 to 100,000; all required |
 /// | `soak` | those of `sample`, and `--workers` as `run` |
+/// | `live` | those of `run` |
 #[derive(Clone, Copy, Debug, PartialEq, Eq)]
 pub enum Command {
     Run {
@@ -35,6 +36,9 @@ pub enum Command {
         number: u32,
         agents: u32,
         steps: u32,
+        workers: u32,
+    },
+    Live {
         workers: u32,
     },
 }
@@ -55,6 +59,7 @@ enum Name {
     Check,
     Sample,
     Soak,
+    Live,
 }
 
 fn name_of(word: &str) -> Option<Name>
@@ -65,6 +70,7 @@ fn name_of(word: &str) -> Option<Name>
         "check" => Some(Name::Check),
         "sample" => Some(Name::Sample),
         "soak" => Some(Name::Soak),
+        "live" => Some(Name::Live),
         _ => None,
     }
 }
@@ -103,6 +109,7 @@ fn read_named<'a>(
         Name::Check => read_options(alloc, "check", &[], words),
         Name::Sample => read_options(alloc, "sample", &[number, agents, steps], words),
         Name::Soak => read_options(alloc, "soak", &[number, agents, steps, workers], words),
+        Name::Live => read_options(alloc, "live", &[workers], words),
     }
 }
 
@@ -178,6 +185,7 @@ fn command_with(name: Name, matches: &ArgMatches<'_>) -> Option<Command>
         Name::Check => Some(Command::Check),
         Name::Sample => sample(matches),
         Name::Soak => soak(matches),
+        Name::Live => workers(matches).map(|workers| Command::Live { workers }),
     }
 }
 

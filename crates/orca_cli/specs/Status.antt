@@ -3,13 +3,12 @@ use Rattle.std.specs.Prelude.{◌≡◌, ℕ, ◌+◌, ◌<◌, ◌≤◌, Bool,
 use Rattle.std.specs.declared.option.Option.{Option}
 use Rattle.std.specs.Io.KnownBytes.{Appends, IsAtEnd, Keeps}
 use Rattle.outside_io.specs.Causes.{AppendsPrefix, Rose, Takes, TakesAtMost}
-use Rattle.command_words.specs.Commands.{command_of}
 use Rattle.command_words.specs.declared.commands.Command.{Command}
 use Rattle.scenario_read.specs.declared.cause.Cause.{Cause}
 use Rattle.scenario_read.specs.declared.cause.Cause.TheVariants.{NoHeader, UnknownKind, FieldCount, NotANumber, OutOfRange, StepsTwice, TooMany, NoSteps, NoSuchAgent, PostOrder, GoalTwice, AgentOnSegment}
-use Rattle.orca_cli.specs.Output.{IsOutput, IsRefused, IsRefusedBy, RunsAreSafe, reads}
+use Rattle.orca_cli.specs.Output.{IsCutOutput, IsOutput, IsRefused, IsRefusedBy, RunsAreSafe, reads, waits}
 use Rattle.orca_cli.specs.declared.status.Status.{Status}
-use Rattle.orca_cli.specs.declared.status.Status.TheVariants.{Done, NoMemory, Usage, Refused, ReadFault, WriteFault, TooLong}
+use Rattle.orca_cli.specs.declared.status.Status.TheVariants.{Done, NoMemory, NoMemoryInRun, Usage, Refused, ReadFault, WriteFault, TooLong}
 
 -- the most bytes of an input
 abbrev pub input_limit : ℕ
@@ -18,6 +17,7 @@ input_limit = 16777216
 abbrev pub code_of : Status → ℕ
 code_of Done = 0
 code_of NoMemory = 1
+code_of NoMemoryInRun = 1
 code_of Usage = 2
 code_of (Refused index cause) = 3
 code_of ReadFault = 4
@@ -45,7 +45,7 @@ WroteOutput command old new bytes = (text : List ℕ) × IsOutput command bytes 
 
 -- a prefix of the output was written
 abbrev pub WrotePart : Command → Channels → Channels → List ℕ → Type 0
-WrotePart command old new bytes = (text : List ℕ) × IsOutput command bytes text × AppendsPrefix old.held new.held text
+WrotePart command old new bytes = (text : List ℕ) × IsCutOutput command bytes text × AppendsPrefix old.held new.held text
 
 -- something holds of the bytes read, where a command reads and the source tells them, or else of none
 abbrev pub OnBytes : Bool → Option (List ℕ) → (List ℕ → Type 0) → Type 0
@@ -59,26 +59,33 @@ ReadInput true old new P = IfSome old.left (λ bytes. (length bytes ≤ input_li
 ReadInput false old new P = P [] × IsUntouched old new
 
 -- a command that reads is asked for
-abbrev pub AsksToRead : List (List ℕ) → Type 0
-AsksToRead words = (command : Command) × (command_of words ≡ Some command) × (reads command ≡ true)
+abbrev pub AsksToRead : Option Command → Type 0
+AsksToRead asked = (command : Command) × (asked ≡ Some command) × (reads command ≡ true)
 
--- the causes of each status, and what it leaves
-abbrev pub Holds : List (List ℕ) → Channels → Channels → Status → Type 0
-Holds words old new Usage = (command_of words ≡ None) × IsUntouched old new × IsUnwritten old new
-Holds words old new NoMemory =
+-- a command that waits for others is asked for
+abbrev pub AsksToWait : Option Command → Type 0
+AsksToWait asked = (command : Command) × (asked ≡ Some command) × (waits command ≡ true)
+
+-- the causes of each status where this command is asked for or none, and what it leaves
+abbrev pub Holds : Option Command → Channels → Channels → Status → Type 0
+Holds asked old new Usage = (asked ≡ None) × IsUntouched old new × IsUnwritten old new
+Holds asked old new NoMemory =
     TakesAtMost old.left new.left input_limit × IsUnwritten old new
-    × ((command : Command) → command_of words ≡ Some command → reads command ≡ false → IsUntouched old new)
-Holds words old new ReadFault =
-    AsksToRead words × Rose old.reads new.reads × TakesAtMost old.left new.left input_limit × IsUnwritten old new
-Holds words old new TooLong =
-    AsksToRead words × IfSome old.left (λ bytes. input_limit < length bytes) × Takes old.left new.left (input_limit + 1) × IsUnwritten old new
-Holds words old new (Refused index cause) =
-    AsksToRead words × IfSome old.left (λ bytes. (length bytes ≤ input_limit) × IsRefusedBy bytes index cause) × IsAtEnd new.left × IsUnwritten old new
-Holds words old new WriteFault =
-    (command : Command) × (command_of words ≡ Some command)
+    × ((command : Command) → asked ≡ Some command → reads command ≡ false → IsUntouched old new)
+Holds asked old new NoMemoryInRun =
+    (command : Command) × (asked ≡ Some command) × (waits command ≡ true)
+    × ReadInput (reads command) old new (λ bytes. WrotePart command old new bytes × RunsAreSafe command bytes)
+Holds asked old new ReadFault =
+    AsksToRead asked × Rose old.reads new.reads × TakesAtMost old.left new.left input_limit × IsUnwritten old new
+Holds asked old new TooLong =
+    AsksToRead asked × IfSome old.left (λ bytes. input_limit < length bytes) × Takes old.left new.left (input_limit + 1) × IsUnwritten old new
+Holds asked old new (Refused index cause) =
+    AsksToRead asked × IfSome old.left (λ bytes. (length bytes ≤ input_limit) × IsRefusedBy bytes index cause) × IsAtEnd new.left × IsUnwritten old new
+Holds asked old new WriteFault =
+    (command : Command) × (asked ≡ Some command)
     × ReadInput (reads command) old new (λ bytes. WrotePart command old new bytes × RunsAreSafe command bytes) × Rose old.writes new.writes
-Holds words old new Done =
-    (command : Command) × (command_of words ≡ Some command)
+Holds asked old new Done =
+    (command : Command) × (asked ≡ Some command)
     × ReadInput (reads command) old new (λ bytes. WroteOutput command old new bytes × RunsAreSafe command bytes)
 
 -- a cause's name, and where it holds
@@ -100,6 +107,7 @@ cause_text (AgentOnSegment agent segment) = codes "AgentOnSegment agent " ++ dec
 unfoldable pub message_of : Status → List ℕ
 message_of Done = []
 message_of NoMemory = codes "no memory\n"
+message_of NoMemoryInRun = codes "no memory\n"
 message_of Usage = codes "usage: crowd run|check|sample|soak|live\n"
 message_of (Refused index cause) = codes "refused: record " ++ decimal index ++ codes ": " ++ cause_text cause ++ codes "\n"
 message_of ReadFault = codes "read fault\n"

@@ -5,10 +5,10 @@ use Rattle.std.specs.Io.KnownBytes.{Appends, IsAtEnd, Keeps}
 use Rattle.crowd_data.specs.Scenario.{Parts}
 use Rattle.outside_io.specs.Causes.{AppendsPrefix, Rose, Takes, TakesAtMost, Wrote}
 use Rattle.command_words.specs.declared.commands.Command.{Command}
-use Rattle.orca_cli.specs.Output.{IsFor, IsRefusedBy}
+use Rattle.orca_cli.specs.Output.{IsCutTextFor, IsFor, IsRefusedBy, IsTextFor}
 use Rattle.orca_cli.specs.Status.{input_limit}
 use Rattle.orca_cli.specs.declared.status.Status.{Status}
-use Rattle.orca_cli.specs.declared.status.Status.TheVariants.{Done, NoMemory, Usage, Refused, ReadFault, WriteFault, TooLong}
+use Rattle.orca_cli.specs.declared.status.Status.TheVariants.{Done, NoMemory, NoMemoryInRun, Usage, Refused, ReadFault, WriteFault, TooLong}
 
 -- what a source tells: the bytes left, and the faults
 pub record Input : Type 0 where
@@ -22,6 +22,7 @@ IsInputFault old new TooLong = IfSome old.left (λ bytes. input_limit < length b
 IsInputFault old new NoMemory = TakesAtMost old.left new.left input_limit
 IsInputFault old new (Refused index cause) =
     IfSome old.left (λ bytes. (length bytes ≤ input_limit) × IsRefusedBy bytes index cause) × IsAtEnd new.left
+IsInputFault old new NoMemoryInRun = ⊥
 IsInputFault old new Usage = ⊥
 IsInputFault old new WriteFault = ⊥
 IsInputFault old new Done = ⊥
@@ -51,10 +52,22 @@ abbrev pub WroteOne : (List ℕ → Type 0) → Output → Output → Status →
 WroteOne IsText old new Done = (text : List ℕ) × IsText text × Appends old.held new.held text
 WroteOne IsText old new WriteFault = (text : List ℕ) × IsText text × AppendsPrefix old.held new.held text × Rose old.faults new.faults
 WroteOne IsText old new NoMemory = Keeps old.held new.held × (new.faults ≡ old.faults)
+WroteOne IsText old new NoMemoryInRun = ⊥
 WroteOne IsText old new Usage = ⊥
 WroteOne IsText old new ReadFault = ⊥
 WroteOne IsText old new TooLong = ⊥
 WroteOne IsText old new (Refused index cause) = ⊥
+
+-- what was written of a run with controllers: its whole text, or a prefix of one so far
+abbrev pub WroteLiveFor : Command → Parts → Output → Output → Status → Type 0
+WroteLiveFor command scenario old new Done = (text : List ℕ) × IsTextFor command scenario text × Appends old.held new.held text
+WroteLiveFor command scenario old new WriteFault = (text : List ℕ) × IsCutTextFor command scenario text × AppendsPrefix old.held new.held text × Rose old.faults new.faults
+WroteLiveFor command scenario old new NoMemoryInRun = (text : List ℕ) × IsCutTextFor command scenario text × AppendsPrefix old.held new.held text
+WroteLiveFor command scenario old new NoMemory = ⊥
+WroteLiveFor command scenario old new Usage = ⊥
+WroteLiveFor command scenario old new ReadFault = ⊥
+WroteLiveFor command scenario old new TooLong = ⊥
+WroteLiveFor command scenario old new (Refused index cause) = ⊥
 
 -- a text of some kind was written, or a prefix of it
 abbrev pub WroteSome : {T E : Type 0} → (List ℕ → Type 0) → Option (List ℕ) → Option (List ℕ) → Result T E → Type 0

@@ -1,18 +1,51 @@
 // The commands that wait for nobody.
-ghost use Rattle.std.specs.Prelude.{map};
+ghost use Rattle.std.specs.Prelude.{◌≡◌, ◌≢◌, Some, false, map};
+ghost use Rattle.command_words.specs.Sizes.{IsSized};
+ghost use Rattle.orca_cli.specs.Output.{offline_command_of, waits};
 ghost use Rattle.orca_cli.specs.Promise.{KeepsPromise};
-ghost use Rattle.orca_cli.specs.Status.{Holds};
+ghost use Rattle.orca_cli.specs.Status.{Holds, IsUnwritten};
 
 use crate::input::scenario_for;
 use crate::output::write_output;
 use crate::status::{Status, code, report};
-use command_words::{WordsFault, read_command};
+use command_words::{Command, WordsFault, read_command};
 use outside_io::{Gate, Sink, Source};
 use run_law::every_run_is_safe;
 use std::alloc::Global;
 use std::thread::Threads;
 
-// Runs the command that the words name.
+// Whether a command waits for others.
+pub(crate) fn waits(command: Command) -> bool
+    ensures { result ≡ waits command }
+{
+    matches!(command, Command::Live { .. })
+}
+
+/// Runs a command that waits for nobody.
+pub(crate) fn run_command<S: Source, T: Sink, R: Threads + Sync, G: Gate + Sync>(
+    rt: &R,
+    alloc: Global,
+    command: Command,
+    source: &mut S,
+    out: &mut T,
+    gate: &G,
+) -> Status
+    requires sized { IsSized command }
+    requires nobody { waits command ≡ false }
+    ensures { Holds (Some command)
+        (record { left = S.left source.old; reads = S.faults source.old; held = T.held out.old; writes = T.faults out.old })
+        (record { left = S.left source.new; reads = S.faults source.new; held = T.held out.new; writes = T.faults out.new }) result }
+{
+    match scenario_for(alloc, command, source) {
+        Ok(scenario) => {
+            every_run_is_safe(&scenario);
+            write_output(rt, alloc, command, scenario, out, gate)
+        }
+        Err(status) => status,
+    }
+}
+
+// Runs the command that the words name, where it waits for nobody.
 fn work<S: Source, T: Sink, R: Threads + Sync, G: Gate + Sync>(
     rt: &R,
     alloc: Global,
@@ -21,21 +54,20 @@ fn work<S: Source, T: Sink, R: Threads + Sync, G: Gate + Sync>(
     out: &mut T,
     gate: &G,
 ) -> Status
-    ensures { Holds (map (λ w. w.now) words.now)
+    ensures { Holds (offline_command_of (map (λ w. w.now) words.now))
         (record { left = S.left source.old; reads = S.faults source.old; held = T.held out.old; writes = T.faults out.old })
         (record { left = S.left source.new; reads = S.faults source.new; held = T.held out.new; writes = T.faults out.new }) result }
 {
-    let command = match read_command(alloc, words) {
-        Ok(command) => command,
-        Err(WordsFault::Usage) => return Status::Usage,
-        Err(WordsFault::NoMemory) => return Status::NoMemory,
-    };
-    match scenario_for(alloc, command, source) {
-        Ok(scenario) => {
-            every_run_is_safe(&scenario);
-            write_output(rt, alloc, command, scenario, out, gate)
+    match read_command(alloc, words) {
+        Ok(command) => {
+            if waits(command) {
+                Status::Usage
+            } else {
+                run_command(rt, alloc, command, source, out, gate)
+            }
         }
-        Err(status) => status,
+        Err(WordsFault::Usage) => Status::Usage,
+        Err(WordsFault::NoMemory) => Status::NoMemory,
     }
 }
 
@@ -71,10 +103,15 @@ pub fn offline<S: Source, T: Sink, E: Sink, R: Threads + Sync, G: Gate + Sync>(
     err: &mut E,
     gate: &G,
 ) -> u8
-    ensures { KeepsPromise (map (λ w. w.now) words.now)
+    ensures promise { KeepsPromise (offline_command_of (map (λ w. w.now) words.now))
         (record { left = S.left source.old; reads = S.faults source.old; held = T.held out.old; writes = T.faults out.old })
         (record { left = S.left source.new; reads = S.faults source.new; held = T.held out.new; writes = T.faults out.new })
         (record { held = E.held err.old; faults = E.faults err.old }) (record { held = E.held err.new; faults = E.faults err.new }) result }
+
+    // Memory runs out only before the first byte is written.
+    ensures unwritten { result ≢ 0 → result ≢ 5 → IsUnwritten
+        (record { left = S.left source.old; reads = S.faults source.old; held = T.held out.old; writes = T.faults out.old })
+        (record { left = S.left source.new; reads = S.faults source.new; held = T.held out.new; writes = T.faults out.new }) }
 {
     let status = work(rt, alloc, words, source, out, gate);
     report(err, status);

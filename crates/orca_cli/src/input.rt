@@ -70,6 +70,7 @@ pub(crate) fn scenario_for<S: Source>(
 {
     match command {
         Command::Run { .. } => scenario_of(alloc, source),
+        Command::Live { .. } => scenario_of(alloc, source),
         Command::Check => scenario_of(alloc, source),
         Command::Sample {
             number,

@@ -1,11 +1,11 @@
 // What a command writes of its scenario.
-ghost use Rattle.std.specs.Prelude.{◌≡◌};
+ghost use Rattle.std.specs.Prelude.{◌≡◌, false};
 ghost use Rattle.command_words.specs.Sizes.{IsSized, IsWorkers};
 ghost use Rattle.crowd_data.specs.Run.{scripts_of};
 ghost use Rattle.frame_text.specs.Transcript.{IsTranscript, scenario_text};
 ghost use Rattle.run_summary.specs.Summary.{IsSummary};
 ghost use Rattle.orca_cli.specs.Accepted.{accepted_line};
-ghost use Rattle.orca_cli.specs.Output.{IsTextFor};
+ghost use Rattle.orca_cli.specs.Output.{IsTextFor, waits};
 ghost use Rattle.orca_cli.specs.Working.{WroteOne};
 
 use crate::accepted::write_accepted;
@@ -89,7 +89,8 @@ fn write_text<T: Sink>(scenario: &Scenario, out: &mut T) -> Status
     }
 }
 
-/// Writes what the command writes of its scenario. All memory is taken before the first byte is written.
+/// Writes what a command that waits for nobody writes of its scenario. All memory is taken before the first byte is
+/// written.
 pub(crate) fn write_output<T: Sink, R: Threads + Sync, G: Gate + Sync>(
     rt: &R,
     alloc: Global,
@@ -98,7 +99,8 @@ pub(crate) fn write_output<T: Sink, R: Threads + Sync, G: Gate + Sync>(
     out: &mut T,
     gate: &G,
 ) -> Status
-    requires { IsSized command }
+    requires sized { IsSized command }
+    requires nobody { waits command ≡ false }
     ensures { WroteOne (IsTextFor command scenario) (record { held = T.held out.old; faults = T.faults out.old }) (record { held = T.held out.new; faults = T.faults out.new }) result }
 {
     match command {
@@ -106,5 +108,6 @@ pub(crate) fn write_output<T: Sink, R: Threads + Sync, G: Gate + Sync>(
         Command::Check => write_size(&scenario, out),
         Command::Sample { .. } => write_text(&scenario, out),
         Command::Soak { workers, .. } => write_run_summary(rt, alloc, scenario, workers, out, gate),
+        Command::Live { .. } => unreachable!(),
     }
 }

@@ -11,8 +11,10 @@ use scenario_read::Cause;
 pub(crate) enum Status {
     /// The whole output was written.
     Done,
-    /// Memory ran out.
+    /// Memory ran out before anything was written.
     NoMemory,
+    /// Memory ran out while controllers ran, and a prefix of the transcript so far was written.
+    NoMemoryInRun,
     /// The words are no command's.
     Usage,
     /// The bytes stand for no scenario: the number of a record, and the cause.
@@ -32,6 +34,7 @@ pub(crate) fn code(status: Status) -> u8
     match status {
         Status::Done => 0,
         Status::NoMemory => 1,
+        Status::NoMemoryInRun => 1,
         Status::Usage => 2,
         Status::Refused { .. } => 3,
         Status::ReadFault => 4,
@@ -83,6 +86,7 @@ fn message(status: Status) -> Line
     match status {
         Status::Done => {}
         Status::NoMemory => line.put(b"no memory\n"),
+        Status::NoMemoryInRun => line.put(b"no memory\n"),
         Status::Usage => line.put(b"usage: crowd run|check|sample|soak|live\n"),
         Status::Refused { index, cause } => {
             line.put(b"refused: record ");

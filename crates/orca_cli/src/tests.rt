@@ -3,6 +3,7 @@ use crate::orca;
 use fixed_vec::{List, NoMemory};
 use outside_io::{MemSink, MemSource, OpenGate};
 use std::alloc::Global;
+use std::sync::Wait;
 use std::test::Fail;
 use std::thread::Threads;
 
@@ -61,7 +62,7 @@ const NONE: Faults = Faults {
     err: None,
 };
 
-fn run_on<R: Threads + Sync>(
+fn run_on<R: Threads + Wait + Sync>(
     rt: &R,
     alloc: Global,
     words: &[&str],
@@ -76,7 +77,7 @@ fn run_on<R: Threads + Sync>(
 }
 
 /// Runs the words over an input, where nothing fails.
-pub(crate) fn ask<R: Threads + Sync>(
+pub(crate) fn ask<R: Threads + Wait + Sync>(
     rt: &R,
     alloc: Global,
     words: &[&str],
@@ -85,12 +86,12 @@ pub(crate) fn ask<R: Threads + Sync>(
     run_on(rt, alloc, words, bytes_of(alloc, input)?, NONE)
 }
 
-fn run<R: Threads + Sync>(rt: &R, alloc: Global, input: &[u8]) -> Result<Ended, Fail> {
+fn run<R: Threads + Wait + Sync>(rt: &R, alloc: Global, input: &[u8]) -> Result<Ended, Fail> {
     run_on(rt, alloc, &["run"], bytes_of(alloc, input)?, NONE)
 }
 
 /// Whether the run of an input ends with these lines.
-pub(crate) fn ends_with<R: Threads + Sync>(
+pub(crate) fn ends_with<R: Threads + Wait + Sync>(
     rt: &R,
     alloc: Global,
     input: &[u8],
@@ -295,7 +296,7 @@ fn reads_records_as_csv_does(rt: HostRuntime) -> Result<(), Fail> {
 }
 
 // The body of frame 1 of an agent that is alone.
-fn first_step<R: Threads + Sync>(
+fn first_step<R: Threads + Wait + Sync>(
     rt: &R,
     alloc: Global,
     agent: &[u8],
