@@ -5,7 +5,7 @@ use Rattle.std.specs.Io.KnownBytes.{Appends, IsAtEnd, Keeps}
 use Rattle.outside_io.specs.Causes.{AppendsPrefix, Rose, Takes, TakesAtMost}
 use Rattle.command_words.specs.declared.commands.Command.{Command}
 use Rattle.scenario_read.specs.declared.cause.Cause.{Cause}
-use Rattle.scenario_read.specs.declared.cause.Cause.TheVariants.{NoHeader, UnknownKind, FieldCount, NotANumber, OutOfRange, StepsTwice, TooMany, NoSteps, NoSuchAgent, PostOrder, GoalTwice, AgentOnSegment}
+use Rattle.scenario_read.specs.declared.cause.Cause.TheVariants.{NoHeader, UnknownKind, FieldCount, NotANumber, OutOfRange, StepsTwice, RingTwice, TooMany, NoSteps, NoSuchAgent, PostOrder, GoalTwice, AgentOnSegment}
 use Rattle.orca_cli.specs.Output.{IsCutOutput, IsOutput, IsRefused, IsRefusedBy, RunsAreSafe, reads, waits}
 use Rattle.orca_cli.specs.declared.status.Status.{Status}
 use Rattle.orca_cli.specs.declared.status.Status.TheVariants.{Done, NoMemory, NoMemoryInRun, Usage, Refused, ReadFault, WriteFault, TooLong}
@@ -96,6 +96,7 @@ cause_text FieldCount = codes "FieldCount"
 cause_text (NotANumber field) = codes "NotANumber field " ++ decimal field
 cause_text (OutOfRange field) = codes "OutOfRange field " ++ decimal field
 cause_text StepsTwice = codes "StepsTwice"
+cause_text RingTwice = codes "RingTwice"
 cause_text TooMany = codes "TooMany"
 cause_text NoSteps = codes "NoSteps"
 cause_text NoSuchAgent = codes "NoSuchAgent"

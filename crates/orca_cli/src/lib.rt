@@ -15,6 +15,8 @@ pub use commands::offline;
 pub use top_call::orca;
 
 #[cfg(test)]
+mod circle_tests;
+#[cfg(test)]
 mod command_tests;
 #[cfg(test)]
 mod crowd_tests;
@@ -22,5 +24,7 @@ mod crowd_tests;
 mod post_tests;
 #[cfg(test)]
 mod tests;
+#[cfg(test)]
+mod version_tests;
 #[cfg(test)]
 mod wall_tests;

@@ -63,6 +63,7 @@ fn put_cause(line: &mut Line, cause: Cause)
             line.put_number(field);
         }
         Cause::StepsTwice => line.put(b"StepsTwice"),
+        Cause::RingTwice => line.put(b"RingTwice"),
         Cause::TooMany => line.put(b"TooMany"),
         Cause::NoSteps => line.put(b"NoSteps"),
         Cause::NoSuchAgent => line.put(b"NoSuchAgent"),
