@@ -10,12 +10,15 @@ use Rattle.crowd_data.specs.declared.agent.Agent.{Agent}
 use Rattle.crowd_data.specs.declared.segment.Segment.{Segment}
 use Rattle.crowd_data.specs.declared.frame.Mark.{Mark}
 use Rattle.crowd_data.specs.declared.frame.Mark.TheVariants.{Crowded}
-use Rattle.crowd_data.specs.Advice.{IsCrowded, IsMarked, GivesWay, StandsStill, agent_at, hard_planes, neighbours_of, planes_at, share_against, soft_planes}
+use Rattle.crowd_data.specs.Advice.{IsCrowded, IsMarked, GivesWay, StandsStill, agent_at, hard_planes, neighbours_of, planes_at, share_against, soft_planes, wall_planes}
 use Rattle.crowd_data.specs.RingPlanes.{ring_planes}
+use Rattle.crowd_data.specs.Limits.{fine_ring}
+use Rattle.crowd_data.specs.Scenario.{Parts}
 use Rattle.crowd_data.specs.Walls.{in_reach, wall_plane}
-use Rattle.hard_plane.proofs.Examples.{length-ring_planes}
+use Rattle.hard_plane.proofs.ScenarioRings.{length-ring_planes_le}
 use Rattle.planar_program.specs.Met.{IsMet}
 use Rattle.agent_step.specs.Among.{AdvisedAmong}
+use Rattle.agent_step.proofs.AnyOrder.{with_walls}
 use Rattle.agent_kdtree.specs.declared.near.Near.{Near}
 
 pub relieved_after-joined : (first rest : List Plane) (hard d : ℕ) → length first ≡ hard → relieved_after hard d (first ++ rest) ≡ first ++ map (λ plane. relieved_of plane d) rest
@@ -31,20 +34,25 @@ length-filter_le {X} p (x ∷ xs) = by (p x) (length-filter_le p xs)
     by false h = omega (arith, h)
 
 -- how many wall planes there are at most
-pub length-wall_planes : (segments : List Segment) (agent : Agent) → length (map (λ segment. drawn_of (wall_plane agent.pos agent segment)) (filter (in_reach agent.pos agent) segments)) ≤ length segments
+pub length-wall_planes : (segments : List Segment) (agent : Agent) → length (wall_planes segments agent) ≤ length segments
 length-wall_planes segments agent =
     omega (arith, length-map (filter (in_reach agent.pos agent) segments) (λ segment. drawn_of (wall_plane agent.pos agent segment)), length-filter_le (in_reach agent.pos agent) segments)
 
 -- how many hard half-planes there are at most
-pub length-hard_planes : (segments : List Segment) (agent : Agent) → length (hard_planes segments agent) ≤ 36 + length segments
-length-hard_planes segments agent =
+pub length-hard_planes : (scenario : Parts) (agent : Agent) → length (hard_planes scenario agent) ≤ fine_ring + length scenario.segments
+length-hard_planes scenario agent =
     omega (
       arith,
-      length-append (ring_planes agent.speed) (map (λ segment. drawn_of (wall_plane agent.pos agent segment)) (filter (in_reach agent.pos agent) segments)),
-      length-ring_planes agent.speed,
-      length-map (filter (in_reach agent.pos agent) segments) (λ segment. drawn_of (wall_plane agent.pos agent segment)),
-      length-filter_le (in_reach agent.pos agent) segments,
+      length-append (ring_planes scenario.ring agent.speed) (wall_planes scenario.segments agent),
+      length-ring_planes_le scenario.ring agent.speed,
+      length-wall_planes scenario.segments agent,
     )
+
+-- the hard half-planes, the walls in an order of their own
+pub hard_from : (scenario : Parts) (segments : List Segment) (crowd : List Agent) (who : ℕ) (agent : Agent) (polygon planes : List Plane)
+    → polygon ≡ ring_planes scenario.ring (agent_at crowd who).speed → agent ≡ agent_at crowd who → planes ≡ polygon ++ wall_planes segments agent → planes ≡ hard_planes (with_walls scenario segments) agent
+hard_from scenario segments crowd who agent polygon planes ring there are =
+    are ∙ ap (λ (first : List Plane). first ++ wall_planes segments agent) (ring ∙ sym (ap (λ (agent : Agent). ring_planes scenario.ring agent.speed) there))
 
 -- the shares against the neighbours that the code has
 pub shares_are : (crowd : List Agent) (who : ℕ) (near : List Near) → map (λ (near : Near). near.agent) near ≡ neighbours_of crowd who
@@ -64,16 +72,16 @@ pub relieved_shares : (planes soft : List Plane) (hard : ℕ) → hard ≡ 0 →
 relieved_shares planes soft hard e f = rw (e, sym f) (rw e refl)
 
 -- the half-planes that the code has are those of the agent, the hard ones first
-pub record IsListed (segments : List Segment) (crowd : List Agent) (who hard : ℕ) (planes : List Plane) : Type 0 where
-  pub are : planes ≡ hard_planes segments (agent_at crowd who) ++ soft_planes crowd who
-  pub count : length (hard_planes segments (agent_at crowd who)) ≡ hard
+pub record IsListed (scenario : Parts) (crowd : List Agent) (who hard : ℕ) (planes : List Plane) : Type 0 where
+  pub are : planes ≡ hard_planes scenario (agent_at crowd who) ++ soft_planes crowd who
+  pub count : length (hard_planes scenario (agent_at crowd who)) ≡ hard
 
-pub listed : (segments walls : List Segment) (crowd seen : List Agent) (who : ℕ) (agent : Agent) (near : List Near) (planes first hard : List Plane)
-    → walls ≡ segments → seen ≡ crowd → agent ≡ agent_at crowd who → map (λ (near : Near). near.agent) near ≡ neighbours_of crowd who
-    → first ≡ hard_planes walls agent → hard ≡ first → planes ≡ first ++ map (λ (near : Near). share_against seen who near.agent) near
-    → IsListed segments crowd who (length hard) planes
-listed segments walls crowd seen who agent near planes first hard e f g h k l m =
-    let firm : first ≡ hard_planes segments (agent_at crowd who) = k ∙ (λ i. hard_planes (e i) (g i)) in
+pub listed : (scenario : Parts) (crowd seen : List Agent) (who : ℕ) (agent : Agent) (near : List Near) (planes first hard : List Plane)
+    → seen ≡ crowd → agent ≡ agent_at crowd who → map (λ (near : Near). near.agent) near ≡ neighbours_of crowd who
+    → first ≡ hard_planes scenario agent → hard ≡ first → planes ≡ first ++ map (λ (near : Near). share_against seen who near.agent) near
+    → IsListed scenario crowd who (length hard) planes
+listed scenario crowd seen who agent near planes first hard f g h k l m =
+    let firm : first ≡ hard_planes scenario (agent_at crowd who) = k ∙ ap (hard_planes scenario) g in
     let soft : map (λ (near : Near). share_against seen who near.agent) near ≡ soft_planes crowd who =
     ap (λ (seen : List Agent). map (λ (near : Near). share_against seen who near.agent) near) f ∙ shares_are crowd who near h in
     record {
@@ -81,17 +89,17 @@ listed segments walls crowd seen who agent near planes first hard e f g h k l m 
       count = ap length (sym (l ∙ firm));
     }
 
-module _ (segments : List Segment) (crowd : List Agent) (who hard : ℕ) (planes : List Plane) (listed : IsListed segments crowd who hard planes) where
-  pub hard_are : take hard planes ≡ hard_planes segments (agent_at crowd who)
-  hard_are = ap (take hard) listed.are ∙ take_at (hard_planes segments (agent_at crowd who)) (soft_planes crowd who) hard listed.count
+module _ (scenario : Parts) (crowd : List Agent) (who hard : ℕ) (planes : List Plane) (listed : IsListed scenario crowd who hard planes) where
+  pub hard_are : take hard planes ≡ hard_planes scenario (agent_at crowd who)
+  hard_are = ap (take hard) listed.are ∙ take_at (hard_planes scenario (agent_at crowd who)) (soft_planes crowd who) hard listed.count
 
   pub soft_are : drop hard planes ≡ soft_planes crowd who
-  soft_are = ap (drop hard) listed.are ∙ drop_at (hard_planes segments (agent_at crowd who)) (soft_planes crowd who) hard listed.count
+  soft_are = ap (drop hard) listed.are ∙ drop_at (hard_planes scenario (agent_at crowd who)) (soft_planes crowd who) hard listed.count
 
-  pub relieved_are : (d : ℕ) → relieved_after hard d planes ≡ planes_at segments crowd who d
-  relieved_are d = ap (relieved_after hard d) listed.are ∙ relieved_after-joined (hard_planes segments (agent_at crowd who)) (soft_planes crowd who) hard d listed.count
+  pub relieved_are : (d : ℕ) → relieved_after hard d planes ≡ planes_at scenario crowd who d
+  relieved_are d = ap (relieved_after hard d) listed.are ∙ relieved_after-joined (hard_planes scenario (agent_at crowd who)) (soft_planes crowd who) hard d listed.count
 
-  pub moves_among : (vel : V2) (mark : Mark) (relief : ℕ) → AdvisedAmong hard planes (agent_at crowd who).pref vel mark relief → StandsStill segments crowd who vel mark relief ⊎ GivesWay segments crowd who vel mark relief
+  pub moves_among : (vel : V2) (mark : Mark) (relief : ℕ) → AdvisedAmong hard planes (agent_at crowd who).pref vel mark relief → StandsStill scenario crowd who vel mark relief ⊎ GivesWay scenario crowd who vel mark relief
   moves_among vel mark relief advised = ⊎_elim
       (λ stands. inl (record { no_room = subst IsEmpty hard_are stands.no_room; still = stands.still; stopped = stands.stopped; unrelieved = stands.unrelieved }))
       (λ moves. inr

@@ -13,7 +13,7 @@ use Rattle.crowd_data.specs.Run.{body_at, standing}
 use Rattle.crowd_data.proofs.Crowds.{agent_at-crowd_of, length-places}
 use Rattle.agent_kdtree.specs.declared.near.Near.{Near}
 use Rattle.agent_kdtree.specs.Seen.{seen_of}
-use Rattle.agent_step.specs.Frozen.{FrozenState, agents_in}
+use Rattle.agent_step.specs.Frozen.{FrozenState, agents_in, polygons_of}
 use Rattle.agent_step.specs.Sight.{seen_by}
 
 module _ (state : FrozenState) (full : length state.frame.bodies ≡ length state.scenario.agents) where
@@ -21,11 +21,11 @@ module _ (state : FrozenState) (full : length state.frame.bodies ≡ length stat
   agent_in who h = agent_at-crowd_of state.scenario.agents state.frame.bodies who h full
 
   -- the polygon at a place is that of the agent
-  pub polygon_of : (made : List (List Plane)) (who : ℕ) → who < length state.scenario.agents → made ≡ map (λ (agent : Agent). ring_planes agent.speed) state.scenario.agents
-      → slice_index_or made who [] ≡ ring_planes (agent_at (agents_in state) who).speed
+  pub polygon_of : (made : List (List Plane)) (who : ℕ) → who < length state.scenario.agents → made ≡ polygons_of state.scenario
+      → slice_index_or made who [] ≡ ring_planes state.scenario.ring (agent_at (agents_in state) who).speed
   polygon_of made who h are =
-      ap (λ made. slice_index_or made who []) are ∙ get_or-map (λ (agent : Agent). ring_planes agent.speed) state.scenario.agents who nobody [] h
-      ∙ sym (ap (λ (agent : Agent). ring_planes agent.speed) (agent_in who h))
+      ap (λ made. slice_index_or made who []) are ∙ get_or-map (λ (agent : Agent). ring_planes state.scenario.ring agent.speed) state.scenario.agents who nobody [] h
+      ∙ sym (ap (λ (agent : Agent). ring_planes state.scenario.ring agent.speed) (agent_in who h))
 
   module _ (places : List Place) (are : places ≡ map place_of (agents_in state)) where
     pub length-standing : length places ≡ length state.scenario.agents

@@ -1,5 +1,5 @@
 -- The greatest relief is enough: every share so relieved has all points of a speed polygon.
-use Rattle.std.proofs.Common.{◌≡◌, ◌-◌, ◌≤◌, ◌*◌, ◌++◌, ℕ, List, [], ◌∷◌, All, drop, map, refl, sym, subst, arith, ℤ, pos, neg_ℤ, ◌+ℤ◌, ◌-ℤ◌, ◌*ℤ◌, ◌≤ℤ◌, unsigned_abs}
+use Rattle.std.proofs.Common.{◌≡◌, ◌-◌, ◌≤◌, ◌*◌, ◌++◌, ℕ, List, [], ◌∷◌, All, drop, map, subst, arith, ℤ, pos, neg_ℤ, ◌+ℤ◌, ◌-ℤ◌, ◌*ℤ◌, ◌≤ℤ◌, unsigned_abs}
 use Rattle.std.proofs.lemmas.Int.{ints}
 use Rattle.std.proofs.lemmas.List.Elements.{All-append, All-map, All-weaker}
 use Rattle.exact_algebra.proofs.Cauchy.{along_le}
@@ -9,12 +9,11 @@ use Rattle.exact_algebra.proofs.Sizes.{whole_root_le}
 use Rattle.fixed_vec.specs.HalfPlane.{Plane, relieved_of, whole_length}
 use Rattle.fixed_vec.specs.Point.{IsIn, IsPoint, Rational, whole}
 use Rattle.fixed_vec.specs.Vector.{zero_vector}
-use Rattle.crowd_data.specs.RingPlanes.{ring_planes, ring_points}
+use Rattle.crowd_data.specs.RingPlanes.{ring_planes}
 use Rattle.planar_line.specs.Relief.{CanBeRelieved, KeepBounds}
 use Rattle.planar_program.specs.Met.{IsMet}
-use Rattle.hard_plane.proofs.RingPoints.{ring_planes_of-plain}
+use Rattle.hard_plane.proofs.ScenarioRings.{polygon_short}
 use Rattle.hard_plane.proofs.ShortPoint.{IsShort}
-use Rattle.hard_plane.proofs.SpeedPolygon.{ring_short}
 use Rattle.exact_algebra.proofs.Elements.{front_of}
 use Rattle.pair_plane.proofs.Lengths.{length_reaches}
 use Rattle.pair_plane.proofs.Sized.{Sized, fits_sized, relieved_sized}
@@ -64,12 +63,11 @@ in_relieved plane k p limit point short h =
     off l h = omega (arith, ints)
 
 -- so what the hard half-planes have in common is in all shares so relieved
-pub enough_relief : (hard soft walls : List Plane) (speed : ℕ) → speed ≤ 16384 → hard ≡ ring_planes speed ++ walls → All (λ plane. Sized plane 200585) soft
+pub enough_relief : (hard soft walls : List Plane) (ring speed : ℕ) → speed ≤ 16384 → hard ≡ ring_planes ring speed ++ walls → All (λ plane. Sized plane 200585) soft
     → IsMet hard → IsMet (hard ++ map (λ plane. relieved_of plane 262143) soft)
-enough_relief hard soft walls speed limit are sized (p, meets) =
-    let ring = front_of (λ plane. IsIn plane p) (ring_planes speed) walls (subst (λ (planes : List Plane). All (λ plane. IsIn plane p) planes) are meets.inside) in
-    let short = ring_short (pos 65) ring_points speed p (omega (arith, ints)) meets.point refl
-    (subst (λ (planes : List Plane). All (λ plane. IsIn plane p) planes) (sym (ring_planes_of-plain (pos 65) ring_points speed refl refl)) ring) in (
+enough_relief hard soft walls ring speed limit are sized (p, meets) =
+    let inside = front_of (λ plane. IsIn plane p) (ring_planes ring speed) walls (subst (λ (planes : List Plane). All (λ plane. IsIn plane p) planes) are meets.inside) in
+    let short = polygon_short ring speed p meets.point inside in (
       p,
       record {
         point = meets.point;

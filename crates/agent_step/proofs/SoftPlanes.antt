@@ -1,8 +1,11 @@
 -- The shares of an agent that is present: which pairs they are made from, and how large they are.
-use Rattle.std.proofs.Common.{◌≡◌, ◌<◌, ◌^◌, ℕ, Bool, true, false, cond, ltb, List, length, All, sym, ap, subst, arith}
+use Rattle.std.proofs.Common.{◌≡◌, ◌<◌, ◌^◌, ℕ, Bool, true, false, cond, ltb, List, [], ◌∷◌, length, All, sym, ap, subst, arith, unsigned_abs}
 use Rattle.std.specs.Prelude.{min}
 use Rattle.std.proofs.lemmas.Int.{ints}
 use Rattle.std.proofs.lemmas.List.Elements.{All-map, All-weaker}
+use Rattle.exact_algebra.proofs.Ring.{quotes, equal}
+use Rattle.fixed_vec.specs.declared.vector.V2.{V2}
+use Rattle.fixed_vec.specs.Vector.{minus, square}
 use Rattle.fixed_vec.specs.HalfPlane.{Plane, drawn_of}
 use Rattle.crowd_data.specs.declared.agent.Agent.{Agent}
 use Rattle.crowd_data.specs.declared.frame.Body.{Body}
@@ -45,6 +48,9 @@ module _ (agents : List Agent) (bodies : List Body) (present : ArePresent agents
   horizon-at : (who : ℕ) → who < length agents → (agent_at agents who).horizon ≡ (agent_at (crowd_of agents bodies) who).horizon
   horizon-at who h = ap (λ (agent : Agent). agent.horizon) (sym (agent_at-crowd_of agents bodies who h present.count))
 
+  pub weight-at : (who : ℕ) → who < length agents → (agent_at agents who).weight ≡ (agent_at (crowd_of agents bodies) who).weight
+  weight-at who h = ap (λ (agent : Agent). agent.weight) (sym (agent_at-crowd_of agents bodies who h present.count))
+
   pub moves-at : (who : ℕ) → who < length agents → CanMove (agent_at (crowd_of agents bodies) who)
   moves-at who h =
       subst CanMove (sym (agent_at-crowd_of agents bodies who h present.count))
@@ -74,7 +80,7 @@ module _ (agents : List Agent) (bodies : List Body) (present : ArePresent agents
 
     -- drawn in, the share is at most 200,585 lengths off
     share_sized : Sized (share_against (crowd_of agents bodies) who other) 200585
-    share_sized = either (ltb who other) _ _ (lower_sized _ _ _ lower_pair) (higher_sized _ _ _ higher_pair)
+    share_sized = either (ltb who other) _ _ (lower_sized _ _ _ _ _ lower_pair (moves-at other there).build.weight.0) (higher_sized _ _ _ _ _ higher_pair (moves-at who here).build.weight.0)
       where
         either : (t : Bool) (x y : Plane) → Sized x 200584 → Sized y 200584 → Sized (drawn_of (cond t x y)) 200585
         either true x y h k = drawn_sized x 200584 h

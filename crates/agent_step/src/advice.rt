@@ -1,16 +1,15 @@
 // What an agent does in a step.
-ghost use Rattle.std.specs.Prelude.{◌≡◌, ◌≢◌, ◌⊎◌, ◌+◌, ◌<◌, ◌≤◌, pos, ◌*ℤ◌, ◌≤ℤ◌, List, ◌++◌, IfSome, length, map, take};
-ghost use Rattle.fixed_vec.specs.HalfPlane.{Plane};
+ghost use Rattle.std.specs.Prelude.{◌≡◌, ◌≢◌, ◌⊎◌, ◌+◌, ◌<◌, ◌≤◌, pos, ◌*ℤ◌, ◌≤ℤ◌, IfSome, length, map, take};
 ghost use Rattle.fixed_vec.specs.Meeting.{relieved_after};
 ghost use Rattle.fixed_vec.specs.Vector.{square};
 ghost use Rattle.crowd_data.specs.Advice.{IsAdvice, GivesWay, StandsStill, agent_at, neighbours_of};
-ghost use Rattle.crowd_data.specs.Limits.{IsBuild, IsVelocity};
-ghost use Rattle.crowd_data.specs.RingPlanes.{ring_planes};
+ghost use Rattle.crowd_data.specs.Limits.{IsBuild, IsVelocity, fine_ring};
 ghost use Rattle.crowd_data.specs.declared.frame.Mark.TheVariants.{Feasible, Fallback};
 ghost use Rattle.planar_line.specs.Relief.{KeepBounds};
 ghost use Rattle.planar_program.specs.Met.{IsMet};
 ghost use Rattle.agent_step.specs.Among.{AdvisedAmong};
-ghost use Rattle.agent_step.specs.Frozen.{KeepsLimits, agents_in};
+ghost use Rattle.agent_step.specs.Frozen.{KeepsLimits, agents_in, most_planes};
+ghost use Rattle.agent_step.specs.Polygons.{BeginWithPolygon};
 ghost use Rattle.agent_kdtree.specs.declared.near.Near.{Near};
 
 use crate::crowd::FrozenCrowd;
@@ -22,7 +21,7 @@ use agent_kdtree::Near;
 use arrayvec::ArrayVec;
 use crowd_data::{Agent, Mark};
 use fixed_vec::{HalfPlane, V2};
-use hard_plane::Ring;
+use hard_plane::speed_law;
 use planar_program::{GREATEST_RELIEF, least_relief};
 
 /// What an agent does in a step.
@@ -55,7 +54,7 @@ fn advise_among(planes: &[HalfPlane], hard: usize, agent: &Agent) -> Advice
     requires build { IsBuild agent.now }
     requires pref { IsVelocity agent.now.pref }
     requires hard { hard ≤ length planes.now }
-    requires polygon { (walls : List Plane) × (take hard planes.now ≡ ring_planes agent.now.speed ++ walls) }
+    requires polygon { BeginWithPolygon (take hard planes.now) agent.now.speed }
     requires bounds { KeepBounds hard GREATEST_RELIEF planes.now }
     requires enough { IsMet (take hard planes.now)
         → IsMet (relieved_after hard GREATEST_RELIEF planes.now) }
@@ -69,7 +68,7 @@ fn advise_among(planes: &[HalfPlane], hard: usize, agent: &Agent) -> Advice
             relief: 0,
         };
     };
-    Ring::<36>::plain().speed_law(agent.speed, &least.point);
+    speed_law(agent.speed, &least.point);
     Advice {
         vel: least.point.rounded(),
         mark: mark_of(least.relief),
@@ -86,9 +85,9 @@ fn advise_freely(
 ) -> Option<Advice>
     requires who { who < length crowd.now.scenario.agents }
     requires near { map (λ (near : Near). near.agent) near.now ≡ neighbours_of (agents_in crowd.now) who }
-    requires room { length crowd.now.scenario.segments + 36 + length near.now ≤ scratch.old }
-    ensures moves { IfSome result (λ a. StandsStill crowd.now.scenario.segments (agents_in crowd.now) who a.vel a.mark a.relief
-        ⊎ GivesWay crowd.now.scenario.segments (agents_in crowd.now) who a.vel a.mark a.relief) }
+    requires room { length near.now + (length crowd.now.scenario.segments + fine_ring) ≤ scratch.old }
+    ensures moves { IfSome result (λ a. StandsStill crowd.now.scenario (agents_in crowd.now) who a.vel a.mark a.relief
+        ⊎ GivesWay crowd.now.scenario (agents_in crowd.now) who a.vel a.mark a.relief) }
     ensures limits { IfSome result (λ a. KeepsLimits (agent_at crowd.now.scenario.agents who).speed a.vel a.relief) }
     ensures room { scratch.new ≡ scratch.old }
 {
@@ -104,9 +103,9 @@ fn advise_freely(
 fn advise_fully(crowd: &FrozenCrowd, who: usize, near: &[Near], scratch: &mut Scratch) -> Advice
     requires who { who < length crowd.now.scenario.agents }
     requires near { map (λ (near : Near). near.agent) near.now ≡ neighbours_of (agents_in crowd.now) who }
-    requires room { length crowd.now.scenario.segments + 36 + length near.now ≤ scratch.old }
-    ensures moves { StandsStill crowd.now.scenario.segments (agents_in crowd.now) who result.vel result.mark result.relief
-        ⊎ GivesWay crowd.now.scenario.segments (agents_in crowd.now) who result.vel result.mark result.relief }
+    requires room { length near.now + (length crowd.now.scenario.segments + fine_ring) ≤ scratch.old }
+    ensures moves { StandsStill crowd.now.scenario (agents_in crowd.now) who result.vel result.mark result.relief
+        ⊎ GivesWay crowd.now.scenario (agents_in crowd.now) who result.vel result.mark result.relief }
     ensures limits { KeepsLimits (agent_at crowd.now.scenario.agents who).speed result.vel result.relief }
     ensures room { scratch.new ≡ scratch.old }
 {
@@ -122,9 +121,9 @@ fn advise_fully(crowd: &FrozenCrowd, who: usize, near: &[Near], scratch: &mut Sc
 fn advise_against(crowd: &FrozenCrowd, who: usize, near: &[Near], scratch: &mut Scratch) -> Advice
     requires who { who < length crowd.now.scenario.agents }
     requires near { map (λ (near : Near). near.agent) near.now ≡ neighbours_of (agents_in crowd.now) who }
-    requires room { length crowd.now.scenario.segments + 36 + length near.now ≤ scratch.old }
-    ensures moves { StandsStill crowd.now.scenario.segments (agents_in crowd.now) who result.vel result.mark result.relief
-        ⊎ GivesWay crowd.now.scenario.segments (agents_in crowd.now) who result.vel result.mark result.relief }
+    requires room { length near.now + (length crowd.now.scenario.segments + fine_ring) ≤ scratch.old }
+    ensures moves { StandsStill crowd.now.scenario (agents_in crowd.now) who result.vel result.mark result.relief
+        ⊎ GivesWay crowd.now.scenario (agents_in crowd.now) who result.vel result.mark result.relief }
     ensures limits { KeepsLimits (agent_at crowd.now.scenario.agents who).speed result.vel result.relief }
     ensures room { scratch.new ≡ scratch.old }
 {
@@ -139,8 +138,8 @@ fn advise_against(crowd: &FrozenCrowd, who: usize, near: &[Near], scratch: &mut 
 /// than the agent's speed, and its relief is at most `GREATEST_RELIEF`, 2^18 - 1. It takes no memory.
 pub fn advise(crowd: &FrozenCrowd, who: usize, scratch: &mut Scratch) -> Advice
     requires who { who < length crowd.now.scenario.agents }
-    requires room { length crowd.now.scenario.segments + 100 ≤ scratch.old }
-    ensures advice { IsAdvice crowd.now.scenario.segments (agents_in crowd.now) who result.vel result.mark result.relief }
+    requires room { most_planes (length crowd.now.scenario.segments) ≤ scratch.old }
+    ensures advice { IsAdvice crowd.now.scenario (agents_in crowd.now) who result.vel result.mark result.relief }
     ensures slow { IsVelocity result.vel }
     ensures speed { square result.vel ≤ℤ (pos (agent_at crowd.now.scenario.agents who).speed *ℤ pos (agent_at crowd.now.scenario.agents who).speed) }
     ensures relief { result.relief ≤ GREATEST_RELIEF }

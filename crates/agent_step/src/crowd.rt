@@ -10,7 +10,7 @@ ghost use Rattle.crowd_data.specs.Walls.{IsClear};
 ghost use Rattle.crowd_data.specs.declared.agent.Agent.{Agent};
 ghost use Rattle.agent_kdtree.specs.Seen.{seen_of};
 ghost use Rattle.agent_kdtree.specs.Stands.{StandsFor};
-ghost use Rattle.agent_step.specs.Frozen.{agents_in};
+ghost use Rattle.agent_step.specs.Frozen.{agents_in, polygons_of};
 ghost use Rattle.agent_step.specs.Sight.{ArePresent, seen_by};
 ghost use Rattle.agent_step.specs.WallBlocks.{StandsForWalls};
 
@@ -71,7 +71,7 @@ impl<'a> FrozenCrowd<'a> {
         tree: &'a Tree,
     ) -> FrozenCrowd<'a>
         requires present { IsPresent scenario.now (snapshot_of frame.now) }
-        requires polygons { polygons.now ≡ map (λ (agent : Agent). ring_planes agent.speed) scenario.now.agents }
+        requires polygons { polygons.now ≡ polygons_of scenario.now }
         requires walls { StandsForWalls walls.now scenario.now.segments }
         requires places { places.now ≡ map place_of (crowd_of scenario.now.agents frame.now.bodies.items) }
         requires stands { StandsFor tree.now places.now }
@@ -127,7 +127,7 @@ impl<'a> FrozenCrowd<'a> {
     /// The speed polygon of the agent with this number.
     pub(crate) fn polygon(&self, who: usize) -> &[HalfPlane]
         requires { who < length self.now.scenario.agents }
-        ensures { result.now ≡ ring_planes (agent_at (agents_in self.now) who).speed }
+        ensures { result.now ≡ ring_planes self.now.scenario.ring (agent_at (agents_in self.now) who).speed }
     {
         self.polygons.of(who)
     }

@@ -1,6 +1,8 @@
 // Room for the half-planes of one agent.
-ghost use Rattle.std.specs.Prelude.{◌≤◌, ◌+◌, IfOk};
+ghost use Rattle.std.specs.Prelude.{◌≤◌, IfOk};
+ghost use Rattle.agent_step.specs.Frozen.{most_planes};
 
+use crowd_data::{FINE_RING, MOST_NEIGHBOURS};
 use fixed_vec::{HalfPlane, List, NoMemory};
 use std::alloc::Global;
 use std::marker::Model;
@@ -21,13 +23,14 @@ impl Model for Scratch {
 }
 
 impl Scratch {
-    /// Room for an agent among so many segments. Each can make a half-plane, as each of at most 64
-    /// neighbours does, and the speed polygon makes 36. `NoMemory` comes only where memory runs out
-    /// (documented, not proved).
+    /// Room for an agent among so many segments. Each can make a half-plane, as each of its neighbours does,
+    /// and the speed polygon makes as many as its ring has points. `NoMemory` comes only where memory runs
+    /// out (documented, not proved).
     pub fn open(alloc: Global, segments: usize) -> Result<Scratch, NoMemory>
-        ensures { IfOk result (λ s. segments + 100 ≤ s) }
+        ensures { IfOk result (λ s. most_planes segments ≤ s) }
     {
-        let Some(room) = segments.checked_add(100) else {
+        let others = (MOST_NEIGHBOURS + FINE_RING) as usize;
+        let Some(room) = segments.checked_add(others) else {
             return Err(NoMemory);
         };
         Ok(Scratch {

@@ -23,6 +23,13 @@ fn disc(agents: &[Agent], bodies: &[Body], who: usize) -> Disc
     }
 }
 
+fn weight(agents: &[Agent], who: usize) -> u32
+    requires { who < length agents.now }
+    ensures { result ≡ (agent_at agents.now who).weight }
+{
+    agents[who].weight
+}
+
 // The smaller of two agents' horizons.
 fn joint_horizon(agents: &[Agent], a: usize, b: usize) -> u32
     requires a { a < length agents.now }
@@ -42,10 +49,12 @@ fn share(agents: &[Agent], bodies: &[Body], who: usize, other: usize) -> HalfPla
     let own = disc(agents, bodies, who);
     let others = disc(agents, bodies, other);
     let horizon = joint_horizon(agents, who, other);
+    let own_weight = weight(agents, who);
+    let others_weight = weight(agents, other);
     if who < other {
-        lower_plane(&own, &others, horizon)
+        lower_plane(&own, &others, horizon, own_weight, others_weight)
     } else {
-        higher_plane(&others, &own, horizon)
+        higher_plane(&others, &own, horizon, others_weight, own_weight)
     }
 }
 

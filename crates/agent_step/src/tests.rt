@@ -3,12 +3,15 @@ ghost use Rattle.std.specs.Prelude.{◌≡◌, ◌<◌, ◌≤◌, ◌^◌, [], 
 ghost use Rattle.agent_kdtree.specs.Placed.{IsPlaced};
 ghost use Rattle.agent_kdtree.specs.Stands.{StandsFor};
 ghost use Rattle.crowd_data.specs.Advice.{place_of};
-ghost use Rattle.crowd_data.specs.Limits.{IsAgent, IsPosition, IsSegment, IsVelocity};
+ghost use Rattle.crowd_data.specs.Limits.{IsAgent, IsPosition, IsRing, IsSegment, IsVelocity, IsWeight};
 ghost use Rattle.crowd_data.specs.Scenario.{IsValid};
 
 use crate::{Advice, FrozenCrowd, Polygons, Scratch, WallBlocks, advise};
 use agent_kdtree::Tree;
-use crowd_data::{Agent, Mark, Place, Scenario, Segment, clear, first_frame};
+use crowd_data::{
+    Agent, FINE_RING, LATEST_VERSION, Mark, PLAIN_RING, Place, Scenario, Segment, clear,
+    first_frame,
+};
 use fixed_vec::{List, NoMemory, V2, dot};
 use std::alloc::Global;
 use std::process::Abort;
@@ -28,6 +31,7 @@ const WALKER: Agent = Agent {
     most: 10,
     horizon: 10,
     wall_horizon: 4,
+    weight: 1,
 };
 
 fn places_of(alloc: Global, agents: &[Agent]) -> Result<List<Place>, NoMemory>
@@ -59,7 +63,7 @@ fn first_advice(alloc: Global, scenario: &Scenario, who: usize) -> Result<Advice
     requires who { who < length scenario.now.agents }
     ensures slow { IfOk result (λ a. IsVelocity a.vel) }
 {
-    let polygons = Polygons::open(alloc, scenario.agents())?;
+    let polygons = Polygons::open(alloc, scenario)?;
     let walls = WallBlocks::open(alloc, scenario.segments())?;
     let mut scratch = Scratch::open(alloc, scenario.segments().len())?;
     let frame = first_frame(alloc, scenario)?;
@@ -71,19 +75,27 @@ fn first_advice(alloc: Global, scenario: &Scenario, who: usize) -> Result<Advice
 
 fn scenario_of(
     alloc: Global,
+    ring: u32,
     agents: List<Agent>,
     segments: List<Segment>,
 ) -> Result<Scenario, NoMemory>
-    requires { IsValid (record { steps = 0; agents = agents.items; segments = segments.items; posts = []; goals = [] }) }
-    ensures { IfOk result (λ s. s ≡ record { steps = 0; agents = agents.items; segments = segments.items; posts = []; goals = [] }) }
+    requires { IsValid (record { version = 2; ring = ring; steps = 0; agents = agents.items; segments = segments.items; posts = []; goals = [] }) }
+    ensures { IfOk result (λ s. s ≡ record { version = 2; ring = ring; steps = 0; agents = agents.items; segments = segments.items; posts = []; goals = [] }) }
 {
     let posts = List::with_room(alloc, 0)?;
     let goals = List::with_room(alloc, 0)?;
-    Ok(Scenario::of(0, agents, segments, posts, goals))
+    Ok(Scenario::of(LATEST_VERSION, ring, 0, agents, segments, posts, goals))
 }
 
-// The advice of an agent that is alone among segments.
-fn alone(rt: &impl Abort, alloc: Global, agent: Agent, segments: &[Segment]) -> Result<Advice, Fail>
+// The advice of an agent that is alone among segments, its polygon being made by this ring.
+fn alone(
+    rt: &impl Abort,
+    alloc: Global,
+    ring: u32,
+    agent: Agent,
+    segments: &[Segment],
+) -> Result<Advice, Fail>
+    requires ring { IsRing ring }
     requires agent { IsAgent agent }
     requires segments { All IsSegment segments.now }
     requires count { length segments.now ≤ 2000 }
@@ -96,7 +108,7 @@ fn alone(rt: &impl Abort, alloc: Global, agent: Agent, segments: &[Segment]) -> 
     }
     let mut agents = List::with_room(alloc, 1)?;
     agents.push(agent);
-    first_advice(alloc, &scenario_of(alloc, agents, walls)?, 0)
+    first_advice(alloc, &scenario_of(alloc, ring, agents, walls)?, 0)
 }
 
 // The advice of a walker that looks for no neighbours, with another walker at a place.
@@ -107,7 +119,7 @@ fn beside(alloc: Global, pos: V2) -> Result<Advice, Fail>
     agents.push(Agent { most: 0, ..WALKER });
     agents.push(Agent { pos, ..WALKER });
     let walls = List::with_room(alloc, 0)?;
-    first_advice(alloc, &scenario_of(alloc, agents, walls)?, 0)
+    first_advice(alloc, &scenario_of(alloc, PLAIN_RING, agents, walls)?, 0)
 }
 
 // The advice of one of these agents, which have no walls.
@@ -122,7 +134,7 @@ fn among(alloc: Global, crowd: &[Agent], who: usize) -> Result<Advice, Fail>
         agents.push(*agent);
     }
     let walls = List::with_room(alloc, 0)?;
-    first_advice(alloc, &scenario_of(alloc, agents, walls)?, who)
+    first_advice(alloc, &scenario_of(alloc, PLAIN_RING, agents, walls)?, who)
 }
 
 // The advice of each of two agents.
@@ -168,6 +180,14 @@ fn with_speed(agent: Agent, speed: u32) -> Agent
     Agent { speed, ..agent }
 }
 
+fn with_weight(agent: Agent, weight: u32) -> Agent
+    requires agent { IsAgent agent }
+    requires weight { IsWeight weight }
+    ensures { IsAgent result }
+{
+    Agent { weight, ..agent }
+}
+
 fn considering_one(agent: Agent) -> Agent
     requires { IsAgent agent }
     ensures { IsAgent result }
@@ -201,7 +221,7 @@ fn crowded(vel: V2) -> Advice {
 
 #[test]
 fn walks_alone(rt: HostRuntime) -> Result<(), Fail> {
-    let advice = alone(&rt, rt.alloc(), WALKER, &[])?;
+    let advice = alone(&rt, rt.alloc(), PLAIN_RING, WALKER, &[])?;
     assert_eq!(rt; advice, feasible(EAST));
     Ok(())
 }
@@ -213,8 +233,38 @@ fn stops_at_a_corner_of_its_polygon(rt: HostRuntime) -> Result<(), Fail> {
         speed: 66,
         ..WALKER
     };
-    let advice = alone(&rt, rt.alloc(), slow, &[])?;
+    let advice = alone(&rt, rt.alloc(), PLAIN_RING, slow, &[])?;
     assert_eq!(rt; advice, feasible(V2 { x: 65, y: 0 }));
+    Ok(())
+}
+
+// The corner (323, 36) of the fine ring is nearer than any of the plain one.
+#[test]
+fn stops_at_a_corner_of_either_polygon(rt: HostRuntime) -> Result<(), Fail> {
+    let eager = Agent {
+        pref: V2 { x: 3230, y: 360 },
+        speed: 326,
+        ..WALKER
+    };
+    let fine = alone(&rt, rt.alloc(), FINE_RING, eager, &[])?;
+    assert_eq!(rt; fine, feasible(V2 { x: 323, y: 36 }));
+    let plain = alone(&rt, rt.alloc(), PLAIN_RING, eager, &[])?;
+    assert_eq!(rt; plain, feasible(V2 { x: 325, y: 0 }));
+    Ok(())
+}
+
+#[test]
+fn considers_a_wall_by_the_fine_ring(rt: HostRuntime) -> Result<(), Fail> {
+    let agent = Agent {
+        pref: V2 { x: 0, y: 300 },
+        ..WALKER
+    };
+    let wall = Segment {
+        a: V2 { x: -2000, y: 800 },
+        b: V2 { x: 2000, y: 800 },
+    };
+    let advice = alone(&rt, rt.alloc(), FINE_RING, agent, &[wall])?;
+    assert_eq!(rt; advice, feasible(V2 { x: 0, y: 75 }));
     Ok(())
 }
 
@@ -230,8 +280,9 @@ fn greatest_of_all_limits(rt: HostRuntime) -> Result<(), Fail> {
         most: 64,
         horizon: 4096,
         wall_horizon: 4096,
+        weight: 16,
     };
-    let advice = alone(&rt, rt.alloc(), largest, &[])?;
+    let advice = alone(&rt, rt.alloc(), PLAIN_RING, largest, &[])?;
     assert_eq!(rt; advice, feasible(V2 { x: 16383, y: 0 }));
     Ok(())
 }
@@ -246,7 +297,7 @@ fn considers_a_wall_that_it_stands_beside(rt: HostRuntime) -> Result<(), Fail> {
         a: V2 { x: -2000, y: 800 },
         b: V2 { x: 2000, y: 800 },
     };
-    let advice = alone(&rt, rt.alloc(), agent, &[wall])?;
+    let advice = alone(&rt, rt.alloc(), PLAIN_RING, agent, &[wall])?;
     assert_eq!(rt; advice, feasible(V2 { x: 0, y: 75 }));
     Ok(())
 }
@@ -257,7 +308,7 @@ fn considers_the_nearest_end_of_a_wall(rt: HostRuntime) -> Result<(), Fail> {
         a: V2 { x: 1000, y: 0 },
         b: V2 { x: 2000, y: 0 },
     };
-    let advice = alone(&rt, rt.alloc(), WALKER, &[wall])?;
+    let advice = alone(&rt, rt.alloc(), PLAIN_RING, WALKER, &[wall])?;
     assert_eq!(rt; advice, feasible(V2 { x: 125, y: 0 }));
     Ok(())
 }
@@ -276,7 +327,7 @@ fn stands_still_without_room(rt: HostRuntime) -> Result<(), Fail> {
         a: V2 { x: -2000, y: -500 },
         b: V2 { x: 2000, y: -500 },
     };
-    let advice = alone(&rt, rt.alloc(), agent, &[above, below])?;
+    let advice = alone(&rt, rt.alloc(), PLAIN_RING, agent, &[above, below])?;
     assert_eq!(rt; advice.vel, ORIGIN);
     assert_eq!(rt; advice.mark, Mark::Stopped);
     assert_eq!(rt; advice.relief, 0);
@@ -323,7 +374,7 @@ fn keeps_within_every_speed(rt: HostRuntime) -> Result<(), Fail> {
                 speed,
                 ..WALKER
             };
-            let advice = alone(&rt, rt.alloc(), agent, &[])?;
+            let advice = alone(&rt, rt.alloc(), PLAIN_RING, agent, &[])?;
             let square = speed as i128 * speed as i128;
             assert!(rt; dot(advice.vel, advice.vel) <= square, "at {speed}");
         }
@@ -381,6 +432,28 @@ fn leave_one_place(rt: HostRuntime) -> Result<(), Fail> {
     let advice = two(rt.alloc(), agent, agent)?;
     assert_eq!(rt; advice[0], feasible(V2 { x: 501, y: 0 }));
     assert_eq!(rt; advice[1], feasible(V2 { x: -501, y: 0 }));
+    Ok(())
+}
+
+// Of the 1000 units that both lack, three parts of four fall to the heavier one.
+#[test]
+fn leave_one_place_by_weight(rt: HostRuntime) -> Result<(), Fail> {
+    let lighter = with_speed(walker(ORIGIN, ORIGIN, ORIGIN), 800);
+    let heavier = with_weight(lighter, 3);
+    let advice = two(rt.alloc(), heavier, lighter)?;
+    assert_eq!(rt; advice[0], feasible(V2 { x: 751, y: 0 }));
+    assert_eq!(rt; advice[1], feasible(V2 { x: -251, y: 0 }));
+    Ok(())
+}
+
+// 1000 / 17 is 58.8, so that 59 and 941 fall to them.
+#[test]
+fn leave_one_place_by_greatest_weight(rt: HostRuntime) -> Result<(), Fail> {
+    let lightest = with_speed(walker(ORIGIN, ORIGIN, ORIGIN), 1000);
+    let heaviest = with_weight(lightest, 16);
+    let advice = two(rt.alloc(), lightest, heaviest)?;
+    assert_eq!(rt; advice[0], feasible(V2 { x: 60, y: 0 }));
+    assert_eq!(rt; advice[1], feasible(V2 { x: -942, y: 0 }));
     Ok(())
 }
 

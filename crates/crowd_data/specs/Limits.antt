@@ -37,13 +37,17 @@ IsVelocity v = IsWithin v 16384
 abbrev pub IsWeight : ℕ → Type 0
 IsWeight weight = (1 ≤ weight) × (weight ≤ 16)
 
+-- the most neighbours that an agent may consider
+abbrev pub most_neighbours : ℕ
+most_neighbours = 64
+
 -- an agent's sizes, speed, look-out and weight, wherever it is
 pub record IsBuild (agent : Agent) : Type 0 where
   pub some_radius : 1 ≤ agent.radius
   pub radius : agent.radius ≤ 32768
   pub speed : agent.speed ≤ 16384
   pub range : agent.range ≤ 65536
-  pub most : agent.most ≤ 64
+  pub most : agent.most ≤ most_neighbours
   pub some_horizon : 1 ≤ agent.horizon
   pub horizon : agent.horizon ≤ 4096
   pub some_wall_horizon : 1 ≤ agent.wall_horizon

@@ -1,5 +1,5 @@
 -- The bodies of the next frame, one after another.
-use Rattle.std.proofs.Common.{◌≡◌, ◌∙◌, ⊎_elim, ℕ, ◌<◌, ◌+◌, ◌≤◌, List, [], ◌∷◌, ◌++◌, append_assoc, append-nil, length, slice_index_or, refl, sym, ap, subst, arith}
+use Rattle.std.proofs.Common.{◌≡◌, ◌∙◌, ⊎_elim, ℕ, ◌<◌, ◌+◌, List, [], ◌∷◌, ◌++◌, append_assoc, append-nil, length, slice_index_or, refl, sym, ap, subst, arith}
 use Rattle.std.proofs.lemmas.Bool.{cases_lt}
 use Rattle.std.proofs.lemmas.List.{get_or_append_left, get_or_default, get_or_push, length_push}
 use Rattle.fixed_vec.specs.declared.vector.V2.{V2}
@@ -15,7 +15,7 @@ use Rattle.frame_step.specs.Moved.{AppendsMoved, MovesTo}
 
 -- a body that takes the velocity, mark and relief of its advice, and moves by the velocity
 pub body_moved : (scenario : Parts) (frame : Snapshot) (who : ℕ) (d body : Body) (vel : V2) (mark : Mark) (relief : ℕ) → who < length frame.bodies
-    → IsAdvice scenario.segments (crowd_of scenario.agents frame.bodies) who vel mark relief → IsVelocity vel → body ≡ moved_body vel mark relief (slice_index_or frame.bodies who d)
+    → IsAdvice scenario (crowd_of scenario.agents frame.bodies) who vel mark relief → IsVelocity vel → body ≡ moved_body vel mark relief (slice_index_or frame.bodies who d)
     → MovesTo scenario frame who body
 body_moved scenario frame who d body vel mark relief h advice slow e =
     rw e (rw (get_or_default frame.bodies who d no_body h) (record { moved = record { agent = refl; pref = refl; advice = advice; pos = refl }; slow = slow }))

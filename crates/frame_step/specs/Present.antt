@@ -1,17 +1,16 @@
 -- A run up to its present frame, and what its steps need.
-use Rattle.std.specs.Prelude.{◌≡◌, ℕ, ◌+◌, ◌≤◌, List, length, map}
+use Rattle.std.specs.Prelude.{◌≡◌, ℕ, ◌+◌, ◌≤◌, List, length}
 use Rattle.fixed_vec.specs.HalfPlane.{Plane}
 use Rattle.fixed_vec.specs.Held.{Held}
-use Rattle.crowd_data.specs.declared.agent.Agent.{Agent}
 use Rattle.crowd_data.specs.declared.frame.Body.{Body}
 use Rattle.crowd_data.specs.declared.pair.Place.{Place}
 use Rattle.crowd_data.specs.Present.{IsPresent}
-use Rattle.crowd_data.specs.RingPlanes.{ring_planes}
 use Rattle.crowd_data.specs.Run.{Snapshot}
 use Rattle.crowd_data.specs.Scenario.{IsValid, Parts}
 use Rattle.agent_kdtree.specs.declared.tree.Tree.{Tree}
 use Rattle.agent_kdtree.specs.Stands.{HasRoomFor}
 use Rattle.agent_step.specs.declared.wall_blocks.WallBlocks.{WallBlocks}
+use Rattle.agent_step.specs.Frozen.{most_planes, polygons_of}
 use Rattle.agent_step.specs.WallBlocks.{StandsForWalls}
 
 -- a run up to its present frame
@@ -27,9 +26,9 @@ Holds count list = count ≤ length list.items + list.spare
 pub record IsReady (scenario : Parts) (frame : Snapshot) (made : List (List Plane)) (blocks : WallBlocks) (next : Held Body) (stand : Held Place) (index : Tree) (scratch : ℕ) : Type 0 where
   pub valid : IsValid scenario
   pub present : IsPresent scenario frame
-  pub polygons : made ≡ map (λ (agent : Agent). ring_planes agent.speed) scenario.agents
+  pub polygons : made ≡ polygons_of scenario
   pub walls : StandsForWalls blocks scenario.segments
   pub bodies : Holds (length scenario.agents) next
   pub places : Holds (length scenario.agents) stand
   pub tree : HasRoomFor index (length scenario.agents)
-  pub planes : length scenario.segments + 100 ≤ scratch
+  pub planes : most_planes (length scenario.segments) ≤ scratch

@@ -3,6 +3,7 @@ ghost use Rattle.std.specs.Prelude.{◌≡◌, ◌<◌, ◌≤◌, ◌+◌, ◌-
 ghost use Rattle.crowd_data.specs.Limits.{IsVelocity};
 ghost use Rattle.crowd_data.specs.Present.{IsBody, IsPresent};
 ghost use Rattle.crowd_data.specs.Run.{moved_body, snapshot_of};
+ghost use Rattle.agent_step.specs.Frozen.{most_planes};
 ghost use Rattle.frame_step.specs.Moved.{AppendsMoved};
 
 use agent_step::{Advice, FrozenCrowd, Scratch, advise};
@@ -42,7 +43,7 @@ pub(crate) fn move_range(
     requires order { from ≤ to }
     requires agents { to ≤ length crowd.now.scenario.agents }
     requires room { to - from ≤ next.old.spare }
-    requires planes { length crowd.now.scenario.segments + 100 ≤ scratch.old }
+    requires planes { most_planes (length crowd.now.scenario.segments) ≤ scratch.old }
     ensures moved { AppendsMoved crowd.now.scenario (snapshot_of frame.now) from (to - from) next.old.items next.new.items }
     ensures room { length next.new.items + next.new.spare ≡ length next.old.items + next.old.spare }
     ensures planes { scratch.new ≡ scratch.old }

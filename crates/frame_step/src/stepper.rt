@@ -53,7 +53,7 @@ impl Stepper {
     {
         let _workers = workers;
         let agents = scenario.agents().len();
-        let polygons = Polygons::open(alloc, scenario.agents())?;
+        let polygons = Polygons::open(alloc, &scenario)?;
         let walls = WallBlocks::open(alloc, scenario.segments())?;
         let scratch = Scratch::open(alloc, scenario.segments().len())?;
         let next = List::with_room(alloc, agents)?;

@@ -19,6 +19,7 @@ const WALKER: Agent = Agent {
     most: 0,
     horizon: 10,
     wall_horizon: 4,
+    weight: 1,
 };
 
 // Two agents for two steps: the second one is just near the first one, which walks away from it. A caller learns
@@ -35,6 +36,8 @@ fn opened(alloc: Global) -> Result<Stepper, NoMemory>
         ..WALKER
     });
     let scenario = Scenario::of(
+        1,
+        36,
         2,
         agents,
         List::with_room(alloc, 0)?,

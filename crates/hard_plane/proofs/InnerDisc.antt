@@ -1,5 +1,5 @@
 -- What is well within a speed is in all half-planes of its polygon, where the edges of the ring are near the circle.
-use Rattle.std.proofs.Common.{◌≡◌, ℕ, zero, suc, ◌-◌, ◌<◌, ◌≤◌, true, List, [], ◌∷◌, length, All, slice_index_or, subst, arith, ℤ, pos, ◌+ℤ◌, ◌-ℤ◌, ◌*ℤ◌, ◌<ℤ◌, ◌≤ℤ◌, int_lt, int_le}
+use Rattle.std.proofs.Common.{◌≡◌, ℕ, zero, suc, ◌-◌, ◌<◌, ◌≤◌, Bool, true, ◌&&◌, List, [], ◌∷◌, length, All, slice_index_or, subst, refl, arith, ℤ, pos, ◌+ℤ◌, ◌-ℤ◌, ◌*ℤ◌, ◌<ℤ◌, ◌≤ℤ◌, int_lt, int_le}
 use Rattle.std.proofs.lemmas.Int.{ints}
 use Rattle.exact_algebra.specs.Numbers.{ceil}
 use Rattle.exact_algebra.proofs.Ring.{quotes, equal, shown}
@@ -11,8 +11,10 @@ use Rattle.fixed_vec.specs.declared.vector.V2.{V2}
 use Rattle.fixed_vec.specs.Vector.{cross, dot, minus, perp, square}
 use Rattle.fixed_vec.specs.HalfPlane.{Plane}
 use Rattle.fixed_vec.specs.Point.{Rational, IsIn}
-use Rattle.crowd_data.specs.RingPlanes.{edge_plane, edge_planes, ring_planes_of}
-use Rattle.hard_plane.specs.Ring.{turns_left, all_at, is_round, inner_reach, slope, loss, million, is_edge_near, are_edges_near, is_near_round, IsInner}
+use Rattle.crowd_data.specs.RingPlanes.{edge_plane, edge_planes, ring_planes, ring_planes_of, ring_points, ring_radius}
+use Rattle.hard_plane.specs.Ring.{turns_left, all_at, is_round, inner_reach, IsInner}
+use Rattle.hard_plane.proofs.RingPoints.{ring_planes_of-ring}
+use Rattle.hard_plane.proofs.ScenarioRings.{by_ring, round, some_radius}
 
 -- ---- the algebra: (g, h) is the edge's normal, d = cross of its points, r the radius, v = (x, y)/q the point
 
@@ -60,7 +62,30 @@ scaled x y q a b t u ha hb h =
     (product_nonneg (q *ℤ q) _ (square_nonneg q) (product_nonneg (b -ℤ u *ℤ a) (b +ℤ u *ℤ a) (gap_nonneg _ _ hb) (sum_nonneg _ _ b0 ha))))
     (search quotes depth 40 fits 20000) tt
 
--- ---- the edges
+-- ---- the test of the edges
+
+-- an edge is at least so many millionths of the radius from the origin
+abbrev slope : ℤ
+slope = pos 989949
+
+-- and rounding its offset up takes at most so many millionths of a unit of speed
+abbrev loss : ℤ
+loss = pos 164000
+
+abbrev million : ℤ
+million = pos 1000000
+
+abbrev is_edge_near : ℤ → V2 → V2 → Bool
+is_edge_near r p q = int_le (slope *ℤ slope *ℤ (r *ℤ r *ℤ square (perp (minus q p)))) (million *ℤ million *ℤ (cross p q *ℤ cross p q)) && int_le (slope *ℤ r) (loss *ℤ cross p q)
+
+abbrev are_edges_near : ℤ → V2 → List V2 → Bool
+are_edges_near r first [] = true
+are_edges_near r first (p ∷ []) = is_edge_near r p first
+are_edges_near r first (p ∷ q ∷ rest) = is_edge_near r p q && are_edges_near r first (q ∷ rest)
+
+abbrev is_near_round : ℤ → List V2 → Bool
+is_near_round r [] = true
+is_near_round r (first ∷ rest) = are_edges_near r first (first ∷ rest)
 
 -- the millionths of a unit that a point may be long
 abbrev most : ℕ → ℤ
@@ -89,7 +114,7 @@ module _ (r : ℤ) (k : ℕ) (v : Rational) (hr : pos 0 <ℤ r) (hq : pos 0 <ℤ
       in_edge_planes first (q ∷ ps) (both_of (int_lt (pos 0) (cross p q)) (turns_left first (q ∷ ps)) t).1 (both_of (is_edge_near r p q) (are_edges_near r first (q ∷ ps)) u).1 j d (omega arith)
 
 -- in each half-plane of a ring that is near the circle
-pub inner_in_ring : (r : ℤ) (ps : List V2) (v : Rational) (speed : ℕ) → pos 0 <ℤ r → pos 0 <ℤ v.q → speed ≤ 16384
+inner_in_ring : (r : ℤ) (ps : List V2) (v : Rational) (speed : ℕ) → pos 0 <ℤ r → pos 0 <ℤ v.q → speed ≤ 16384
     → is_round r ps ≡ true → is_near_round r ps ≡ true → IsInner speed v → All (λ plane. IsIn plane v) (ring_planes_of r ps speed)
 inner_in_ring r [] v speed hr hq hs t u inner = absurd (cc t)
 inner_in_ring r (p ∷ ps) v speed hr hq hs t u inner =
@@ -98,3 +123,9 @@ inner_in_ring r (p ∷ ps) v speed hr hq hs t u inner =
     let k0 : pos 0 ≤ℤ most (speed - 1) = omega (arith, ints) in
     in_edge_planes r (speed - 1) v hr hq k0 (scaled v.x v.y v.q (inner_reach speed) (most (speed - 1)) (pos 100) (pos 10000) a0 ab inner.near)
     p (p ∷ ps) (both_of (all_at r (p ∷ ps)) (turns_left p (p ∷ ps)) t).1 u
+
+-- and in each half-plane of a speed polygon, whichever the ring
+pub inner_in_polygon : (v : Rational) (speed : ℕ) → pos 0 <ℤ v.q → speed ≤ 16384 → IsInner speed v → (ring : ℕ) → All (λ plane. IsIn plane v) (ring_planes ring speed)
+inner_in_polygon v speed hq hs inner ring =
+    subst (λ planes. All (λ plane. IsIn plane v) planes) (ring_planes_of-ring ring (ring_radius ring) (ring_points ring) speed refl refl)
+    (inner_in_ring (ring_radius ring) (ring_points ring) v speed (some_radius ring) hq hs (round ring) (by_ring (λ r ps. is_near_round r ps ≡ true) refl refl ring) inner)

@@ -11,17 +11,17 @@ use Rattle.hard_plane.proofs.ShortPoint.{IsShort}
 use Rattle.hard_plane.proofs.SpeedPolygon.{ring_short}
 
 -- what holds of both rings
-by_ring : (P : ℤ → List V2 → Type 0) → P (pos 325) (all_round fine_quarter) → P (pos 65) (all_round plain_quarter) → (ring : ℕ) → P (ring_radius ring) (ring_points ring)
+pub by_ring : (P : ℤ → List V2 → Type 0) → P (pos 325) (all_round fine_quarter) → P (pos 65) (all_round plain_quarter) → (ring : ℕ) → P (ring_radius ring) (ring_points ring)
 by_ring P fine plain ring = by (eqb ring fine_ring)
   where
     by : (b : Bool) → P (cond b (pos 325) (pos 65)) (cond b (all_round fine_quarter) (all_round plain_quarter))
     by true = fine
     by false = plain
 
-round : (ring : ℕ) → is_round (ring_radius ring) (ring_points ring) ≡ true
+pub round : (ring : ℕ) → is_round (ring_radius ring) (ring_points ring) ≡ true
 round = by_ring (λ r ps. is_round r ps ≡ true) refl refl
 
-some_radius : (ring : ℕ) → pos 0 <ℤ ring_radius ring
+pub some_radius : (ring : ℕ) → pos 0 <ℤ ring_radius ring
 some_radius = by_ring (λ r ps. pos 0 <ℤ r) (omega (arith, ints)) (omega (arith, ints))
 
 few_points : (ring : ℕ) → length (ring_points ring) ≤ 60

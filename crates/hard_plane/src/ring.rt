@@ -1,10 +1,10 @@
 // Rings of points round the origin, and the polygon of a speed.
-ghost use Rattle.std.specs.Prelude.{◌≡◌, ◌<◌, ◌≤◌, ◌^◌, All, Some, slice_get, pos, ◌*ℤ◌, ◌≤ℤ◌, ◌<ℤ◌, IsTrue, unsigned_abs};
+ghost use Rattle.std.specs.Prelude.{◌≡◌, ◌<◌, ◌≤◌, ◌^◌, All, Some, length, slice_get, pos, ◌*ℤ◌, ◌≤ℤ◌, ◌<ℤ◌, IsTrue, unsigned_abs};
 ghost use Rattle.exact_algebra.specs.Numbers.{ceil};
 ghost use Rattle.fixed_vec.specs.Point.{IsIn, rounded_of};
 ghost use Rattle.fixed_vec.specs.Vector.{IsBelow, dot, square};
 ghost use Rattle.crowd_data.specs.RingPlanes.{ring_planes_of, ring_points, ring_radius};
-ghost use Rattle.hard_plane.specs.Ring.{is_near_round, is_ring, IsInner, IsNeighbour};
+ghost use Rattle.hard_plane.specs.Ring.{is_ring, IsNeighbour};
 
 use crowd_data::{FINE_RING, PLAIN_RING};
 use fixed_vec::{HalfPlane, Point, V2, minus, perp};
@@ -123,7 +123,6 @@ pub struct Ring<const K: usize> {
     /// The points, in units, counter-clockwise.
     pub points: [V2; K],
     ghost round: { IsTrue (is_ring radius points) },
-    ghost near: { IsTrue (is_near_round radius points) },
 }
 
 // k times the inner product of an edge's normal with one of its points.
@@ -160,8 +159,8 @@ impl Ring<36> {
 }
 
 impl Ring<60> {
-    /// The fine ring: 60 points at distance 325. Its polygons lose at most 0.6 hundredths of a speed, where
-    /// those of the plain ring lose up to 1.1.
+    /// The fine ring: 60 points at distance 325. Its polygons cut off at most 0.6 per cent of a speed, where
+    /// those of the plain ring cut off just over 1.
     pub fn fine() -> Ring<60>
         ensures radius { result.radius ≡ ring_radius FINE_RING }
         ensures points { result.points ≡ ring_points FINE_RING }
@@ -178,6 +177,7 @@ impl<const K: usize> Ring<K> {
         requires { k < K }
         ensures value { slice_get self.now.points k ≡ Some result }
         ensures small { IsBelow result 1024 }
+        ensures count { length self.now.points ≡ K }
     {
         self.points[k]
     }
@@ -207,11 +207,12 @@ impl<const K: usize> Ring<K> {
     }
 
     /// The k-th half-plane of the polygon of a speed, which is that of the edge from the k-th point to
-    /// its neighbour. The speed is at most 16,384 units per step.
+    /// its neighbour; there are K of them. The speed is at most 16,384 units per step.
     pub fn plane(&self, k: usize, speed: u32) -> HalfPlane
         requires place { k < K }
         requires speed { speed ≤ 16384 }
-        ensures { slice_get (ring_planes_of self.now.radius self.now.points speed) k ≡ Some result }
+        ensures value { slice_get (ring_planes_of self.now.radius self.now.points speed) k ≡ Some result }
+        ensures count { length (ring_planes_of self.now.radius self.now.points speed) ≡ K }
     {
         let m = self.point(k);
         let normal = perp(minus(self.neighbour(k, m), m));
@@ -226,15 +227,6 @@ impl<const K: usize> Ring<K> {
         ensures across { pos (unsigned_abs point.now.x) ≤ℤ (point.now.q *ℤ pos (2 ^ 32)) }
         ensures along { pos (unsigned_abs point.now.y) ≤ℤ (point.now.q *ℤ pos (2 ^ 32)) }
         ensures within_speed { square (rounded_of point.now) ≤ℤ (pos speed *ℤ pos speed) }
-    {
-        let _ = point.q();
-    }
-    /// The inner law. It answers nothing: its contract says that a point no longer than 0.99 times the
-    /// speed less one, less one, is in all half-planes of the speed.
-    pub fn inner_law(&self, speed: u32, point: &Point)
-        requires speed { speed ≤ 16384 }
-        requires inner { IsInner speed point.now }
-        ensures { All (λ plane. IsIn plane point.now) (ring_planes_of self.now.radius self.now.points speed) }
     {
         let _ = point.q();
     }

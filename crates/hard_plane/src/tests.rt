@@ -3,7 +3,7 @@ ghost use Rattle.std.specs.Prelude.{◌≡◌};
 ghost use Rattle.crowd_data.specs.Limits.{IsPosition};
 ghost use Rattle.fixed_vec.specs.HalfPlane.{FitsPlane, drawn_of};
 
-use crate::{Ring, in_reach, wall_plane};
+use crate::{Ring, in_reach, inner_law, speed_law, wall_plane};
 use crowd_data::{Agent, Segment, clear};
 use fixed_vec::{HalfPlane, Point, V2};
 use std::process::Abort;
@@ -72,14 +72,12 @@ fn no_way_from_the_origin_at_speeds_0_and_1(rt: HostRuntime) {
 // What is well within a speed is in its half-planes, so it is near enough to be rounded.
 #[test]
 fn rounds_a_point_within_a_speed(rt: HostRuntime) {
-    let ring = Ring::<36>::plain();
     let point = Point::of(61, 81, 2);
-    ring.inner_law(66, &point);
-    ring.speed_law(66, &point);
+    inner_law(66, &point);
+    speed_law(66, &point);
     assert_eq!(rt; point.rounded(), V2 { x: 31, y: 41 });
-    let fine = Ring::<60>::fine();
-    fine.inner_law(66, &point);
-    fine.speed_law(66, &point);
+    Ring::<36>::plain().speed_law(66, &point);
+    Ring::<60>::fine().speed_law(66, &point);
 }
 
 #[test]

@@ -1,13 +1,9 @@
-use Rattle.std.proofs.Common.{inr, arith}
-use Rattle.agent_step.proofs.PolygonPoints.{meets_hard, meets_ring, short_velocity}
+use Rattle.std.proofs.Common.{inr}
+use Rattle.agent_step.proofs.PolygonPoints.{meets_hard, meets_polygon, short_velocity}
 use Rattle.agent_step.proofs.advice.advise_among.Goals as goal
 
-pub speed_law-requires : goal.speed_law-requires
-speed_law-requires c =
-    let (walls, are) = c.requires.polygon in (
-      omega arith,
-      (c.requires.build.speed, meets_ring _ _ c.args.agent.now.speed c.args.planes.now walls c.args.hard _ _ c.plain.ensures.radius c.plain.ensures.points are c.in-Some.ensures.nearest.meets),
-    )
+pub speed_law-requires-clause-inside : goal.speed_law-requires-clause-inside
+speed_law-requires-clause-inside c = meets_polygon c.args.planes.now c.args.hard _ c.args.agent.now.speed _ c.requires.polygon c.in-Some.ensures.nearest.meets
 
 pub returns-clause-advised : goal.returns-clause-advised
 returns-clause-advised c = inr (record {

@@ -5,7 +5,7 @@ use Rattle.exact_algebra.proofs.Elements.{before_map}
 use Rattle.std.proofs.lemmas.List.Sorted.{All-permutation, length_permutation}
 use Rattle.crowd_data.specs.Limits.{IsSegment}
 use Rattle.crowd_data.specs.Walls.{IsClear}
-use Rattle.agent_step.proofs.AnyOrder.{moves_in_any_order}
+use Rattle.agent_step.proofs.AnyOrder.{moves_in_any_order, with_walls}
 use Rattle.fixed_vec.specs.HalfPlane.{Plane}
 use Rattle.planar_program.specs.Met.{IsMet}
 use Rattle.crowd_data.specs.declared.agent.Agent.{Agent}
@@ -94,6 +94,11 @@ pub returns-clause-limits : goal.returns-clause-limits
 returns-clause-limits c =
     subst (λ speed. IfSome c.free_advice.result (λ a. KeepsLimits speed a.vel a.relief)) c.agent-agent.ensures.speed c.free_advice.ensures.limits
 
+pub free_advice-requires-clause-polygon : goal.free_advice-requires-clause-polygon
+free_advice-requires-clause-polygon c =
+    let ring = c.args.crowd.now.scenario.ring in
+    (ring, c.polygon.ensures ∙ sym (ap (λ (agent : Agent). ring_planes ring agent.speed) c.agent-agent.ensures.value))
+
 pub returns-clause-moves : goal.returns-clause-moves
 returns-clause-moves c =
     let crowd = agents_in c.args.crowd.now in
@@ -101,23 +106,24 @@ returns-clause-moves c =
     let bodies = c.args.crowd.now.frame.bodies in
     let who = c.args.who in
     let segments = c.walls.result.now.segments.items in
+    let scenario = with_walls c.args.crowd.now.scenario segments in
     let agent = c.agent-agent.result in
     let polygon = c.polygon.result.now in
     let walls = c.fill_walls.new.planes.items in
     let there = c.agent-agent.ensures.value in
     let seen : crowd_of c.agents.result.now c.bodies.result.now ≡ crowd = (λ i. crowd_of (c.agents.ensures i) (c.bodies.ensures.value i)) in
-    let ring : polygon ≡ ring_planes agent.speed = c.polygon.ensures ∙ sym (ap (λ (agent : Agent). ring_planes agent.speed) there) in
-    let firm : polygon ++ walls ≡ hard_planes segments agent = ap (λ (first : List Plane). first ++ walls) ring ∙ ap (λ (rest : List Plane). ring_planes agent.speed ++ rest) c.fill_walls.ensures.items in
+    let ring : polygon ≡ ring_planes scenario.ring agent.speed = c.polygon.ensures ∙ sym (ap (λ (agent : Agent). ring_planes scenario.ring agent.speed) there) in
+    let firm : polygon ++ walls ≡ hard_planes scenario agent = ap (λ (first : List Plane). first ++ walls) ring ∙ ap (λ (rest : List Plane). ring_planes scenario.ring agent.speed ++ rest) c.fill_walls.ensures.items in
     let all : polygon ++ c.items.result.now ≡ (polygon ++ walls) ++ map (λ (near : Near). share_against (crowd_of c.agents.result.now c.bodies.result.now) who near.agent) c.args.near.now =
     ap (λ (rest : List Plane). polygon ++ rest) (c.items.ensures ∙ c.push_shares.ensures.items) ∙ sym (append_assoc polygon walls _) in
-    let is = listed segments segments crowd (crowd_of c.agents.result.now c.bodies.result.now) who agent c.args.near.now (polygon ++ c.items.result.now) (polygon ++ walls) (polygon ++ walls)
-    refl seen there c.requires.near firm refl all in
+    let is = listed scenario crowd (crowd_of c.agents.result.now c.bodies.result.now) who agent c.args.near.now (polygon ++ c.items.result.now) (polygon ++ walls) (polygon ++ walls)
+    seen there c.requires.near firm refl all in
     let count : length polygon + length c.items-walls.result.now ≡ length (polygon ++ walls) = ap (λ n. length polygon + n) (ap length c.items-walls.ensures) ∙ sym (length-append polygon walls) in
     if_some
     (λ a. AdvisedAmong (length polygon + length c.items-walls.result.now) (polygon ++ c.items.result.now) agent.pref a.vel a.mark a.relief)
-    (λ a. StandsStill c.args.crowd.now.scenario.segments crowd who a.vel a.mark a.relief ⊎ GivesWay c.args.crowd.now.scenario.segments crowd who a.vel a.mark a.relief)
-    (λ a h. moves_in_any_order c.args.crowd.now.scenario.segments segments crowd who a.vel a.mark a.relief c.walls.ensures.stands.order
-    (moves_among segments crowd who (length (polygon ++ walls)) (polygon ++ c.items.result.now) is a.vel a.mark a.relief
+    (λ a. StandsStill c.args.crowd.now.scenario crowd who a.vel a.mark a.relief ⊎ GivesWay c.args.crowd.now.scenario crowd who a.vel a.mark a.relief)
+    (λ a h. moves_in_any_order c.args.crowd.now.scenario segments crowd who a.vel a.mark a.relief c.walls.ensures.stands.order
+    (moves_among scenario crowd who (length (polygon ++ walls)) (polygon ++ c.items.result.now) is a.vel a.mark a.relief
     (subst (λ (agent : Agent). AdvisedAmong (length (polygon ++ walls)) (polygon ++ c.items.result.now) agent.pref a.vel a.mark a.relief) there
     (subst (λ n. AdvisedAmong n (polygon ++ c.items.result.now) agent.pref a.vel a.mark a.relief) count h))))
     c.free_advice.result c.free_advice.ensures.advised
