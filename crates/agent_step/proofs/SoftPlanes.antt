@@ -3,6 +3,9 @@ use Rattle.std.proofs.Common.{◌≡◌, ◌<◌, ◌^◌, ℕ, Bool, true, fals
 use Rattle.std.specs.Prelude.{min}
 use Rattle.std.proofs.lemmas.Int.{ints}
 use Rattle.std.proofs.lemmas.List.Elements.{All-map, All-weaker}
+use Rattle.exact_algebra.proofs.Ring.{quotes, equal}
+use Rattle.fixed_vec.specs.declared.vector.V2.{V2}
+use Rattle.fixed_vec.specs.Vector.{minus, square}
 use Rattle.fixed_vec.specs.HalfPlane.{Plane, drawn_of}
 use Rattle.crowd_data.specs.declared.agent.Agent.{Agent}
 use Rattle.crowd_data.specs.declared.frame.Body.{Body}

@@ -254,7 +254,7 @@ fn stops_at_a_corner_of_either_polygon(rt: HostRuntime) -> Result<(), Fail> {
 }
 
 #[test]
-fn heeds_a_wall_by_the_fine_ring(rt: HostRuntime) -> Result<(), Fail> {
+fn considers_a_wall_by_the_fine_ring(rt: HostRuntime) -> Result<(), Fail> {
     let agent = Agent {
         pref: V2 { x: 0, y: 300 },
         ..WALKER

@@ -24,7 +24,8 @@ pub record HasPlainParts (ring : ℕ) (agents : List Agent) : Type 0 where
   pub weights : All (λ (agent : Agent). agent.weight ≡ 1) agents
 
 -- the parts make up a scenario: every number and count is within its limits, version 1 has nothing that is
--- new in version 2, frames of posts never fall, agents that are named exist, no agent has two goals, and every agent is clear of every segment
+-- new in version 2, frames of posts never fall, agents that are named exist, no agent has two goals, and
+-- every agent is clear of every segment
 pub record IsValid (s : Parts) : Type 0 where
   pub version : IsVersion s.version
   pub ring : IsRing s.ring

@@ -141,6 +141,8 @@ fn opened_row(alloc: Global, count: u32, workers: u32) -> Result<Stepper, NoMemo
     ensures steps { IfOk result (λ stepper. stepper.scenario.steps ≡ 2) }
 {
     let scenario = Scenario::of(
+        1,
+        36,
         2,
         row_of(alloc, count)?,
         List::with_room(alloc, 0)?,

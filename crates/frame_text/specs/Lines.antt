@@ -1,8 +1,9 @@
 -- The lines of a scenario and of a transcript. Fields are joined by commas, and a line feed ends a line.
-use Rattle.std.specs.Prelude.{ℕ, List, ◌++◌, codes, decimal}
+use Rattle.std.specs.Prelude.{ℕ, ◌==◌, if◌then◌else◌, List, [], ◌∷◌, ◌++◌, codes, decimal}
 use Rattle.std.specs.Fmt.{signed_decimal}
 use Rattle.fixed_vec.specs.declared.vector.V2.{V2}
 use Rattle.crowd_data.specs.declared.agent.Agent.{Agent}
+use Rattle.crowd_data.specs.declared.limits.TheConstants.{FINE_RING, FIRST_VERSION}
 use Rattle.crowd_data.specs.declared.segment.Segment.{Segment}
 use Rattle.crowd_data.specs.declared.post.ScriptPost.{ScriptPost}
 use Rattle.crowd_data.specs.declared.post.Goal.{Goal}
@@ -15,20 +16,33 @@ use Rattle.crowd_data.specs.declared.frame.Mark.TheVariants.{Start, Feasible, Fa
 unfoldable pub vector_text : V2 → List ℕ
 vector_text v = signed_decimal v.x ++ codes "," ++ signed_decimal v.y
 
--- crowd,1
-unfoldable pub header_line : List ℕ
-header_line = codes "crowd,1\n"
+-- crowd,VERSION
+unfoldable pub header_line : ℕ → List ℕ
+header_line version = codes "crowd," ++ decimal version ++ codes "\n"
 
 -- steps,N
 unfoldable pub steps_line : ℕ → List ℕ
 steps_line steps = codes "steps," ++ decimal steps ++ codes "\n"
 
+-- ring,POINTS
+unfoldable pub ring_line : ℕ → List ℕ
+ring_line points = codes "ring," ++ decimal points ++ codes "\n"
+
+-- the line of the ring, where it is the fine one
+abbrev pub ring_lines : ℕ → List (List ℕ)
+ring_lines points = if points == FINE_RING then ring_line points ∷ [] else []
+
+-- the field of the weight, which version 1 doesn't have
+abbrev pub weight_text : ℕ → ℕ → List ℕ
+weight_text version weight = if version == FIRST_VERSION then [] else codes "," ++ decimal weight
+
 -- agent,X,Y,VX,VY,PX,PY,RADIUS,SPEED,RANGE,MOST,HORIZON,WALL HORIZON
-unfoldable pub agent_line : Agent → List ℕ
-agent_line a =
+-- and, behind these in version 2, WEIGHT
+unfoldable pub agent_line : ℕ → Agent → List ℕ
+agent_line version a =
     codes "agent," ++ vector_text a.pos ++ codes "," ++ vector_text a.vel ++ codes "," ++ vector_text a.pref
     ++ codes "," ++ decimal a.radius ++ codes "," ++ decimal a.speed ++ codes "," ++ decimal a.range
-    ++ codes "," ++ decimal a.most ++ codes "," ++ decimal a.horizon ++ codes "," ++ decimal a.wall_horizon ++ codes "\n"
+    ++ codes "," ++ decimal a.most ++ codes "," ++ decimal a.horizon ++ codes "," ++ decimal a.wall_horizon ++ weight_text version a.weight ++ codes "\n"
 
 -- segment,AX,AY,BX,BY
 unfoldable pub segment_line : Segment → List ℕ

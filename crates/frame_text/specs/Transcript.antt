@@ -3,12 +3,16 @@ use Rattle.std.specs.Prelude.{◌≡◌, ℕ, List, [], ◌∷◌, ◌++◌, fla
 use Rattle.crowd_data.specs.declared.post.Post.{Post}
 use Rattle.crowd_data.specs.Scenario.{Parts}
 use Rattle.crowd_data.specs.Run.{IsRun, Snapshot}
-use Rattle.frame_text.specs.Lines.{agent_line, body_line, end_line, frame_line, goal_line, header_line, post_line, segment_line, steps_line, take_line}
+use Rattle.frame_text.specs.Lines.{agent_line, body_line, end_line, frame_line, goal_line, header_line, post_line, ring_lines, segment_line, steps_line, take_line}
 
--- a scenario: the header, the steps, then its agents, segments, posts and goals
+-- the lines before the agents: the header, the steps, and the ring where it is the fine one
+abbrev pub head_text : Parts → List ℕ
+head_text s = header_line s.version ++ steps_line s.steps ++ flat_map (λ (line : List ℕ). line) (ring_lines s.ring)
+
+-- a scenario: these lines, then its agents, segments, posts and goals
 abbrev pub scenario_text : Parts → List ℕ
 scenario_text s =
-    header_line ++ steps_line s.steps ++ flat_map agent_line s.agents ++ flat_map segment_line s.segments
+    head_text s ++ flat_map (agent_line s.version) s.agents ++ flat_map segment_line s.segments
     ++ flat_map post_line s.posts ++ flat_map goal_line s.goals
 
 -- a frame: its number, the posts that were taken in, and its bodies

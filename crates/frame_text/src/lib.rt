@@ -1,6 +1,7 @@
 //! The texts of a scenario and of a transcript, line by line, and transcripts read back from their texts.
 #![tactic(auto)]
 
+mod agent_line;
 mod cause;
 mod frame_records;
 mod frames;

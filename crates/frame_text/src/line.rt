@@ -1,5 +1,5 @@
 // A line of text, put together in place.
-ghost use Rattle.std.specs.Prelude.{◌≡◌, ◌≤◌, ◌+◌, ◌^◌, ◌<◌, [], ◌++◌, length, decimal, unsigned_abs};
+ghost use Rattle.std.specs.Prelude.{◌≡◌, ◌≤◌, ◌+◌, ◌^◌, ◌<◌, [], ◌++◌, length, decimal, codes, unsigned_abs};
 ghost use Rattle.std.specs.Fmt.{signed_decimal};
 ghost use Rattle.fixed_vec.specs.Vector.{IsBelow};
 ghost use Rattle.frame_text.specs.Lines.{vector_text};
@@ -81,4 +81,17 @@ impl Line {
         self.put(b",");
         self.put_signed(v.y as i32);
     }
+}
+
+/// The line of a word, which ends with a comma, and a number.
+pub(crate) fn numbered(word: &[u8], number: u32) -> Line
+    requires { length word.now < 100 }
+    ensures text { result ≡ word.now ++ decimal number ++ codes "\n" }
+    ensures some { 0 < length result }
+{
+    let mut line = Line::new();
+    line.put(word);
+    line.put_number(number);
+    line.put(b"\n");
+    line
 }

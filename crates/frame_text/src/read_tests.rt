@@ -89,7 +89,7 @@ fn first_causes(rt: HostRuntime) -> Result<(), Fail> {
         at(3, TranscriptCause::Shape)
     );
     assert_eq!(rt;
-        fault_of(rt.alloc(), b"crowd,2\n".as_slice()),
+        fault_of(rt.alloc(), b"crowd,3\n".as_slice()),
         at(0, TranscriptCause::Scenario(Cause::NoHeader))
     );
     let cut =
@@ -121,6 +121,22 @@ fn first_causes(rt: HostRuntime) -> Result<(), Fail> {
     assert_eq!(rt;
         fault_of(rt.alloc(), take_in_0),
         at(4, TranscriptCause::Shape)
+    );
+    Ok(())
+}
+
+#[test]
+fn version_2(rt: HostRuntime) -> Result<(), Fail> {
+    let transcript = read(
+        rt.alloc(),
+        b"crowd,2\nsteps,1\nring,60\nagent,0,0,0,0,3230,360,500,326,15000,10,10,4,1\nframe,0\nbody,0,0,0,0,0,3230,360,start,0\nframe,1\nbody,0,323,36,323,36,3230,360,feasible,0\nend,1\n",
+    )?;
+    assert_eq!(rt; transcript.scenario.version(), 2);
+    assert_eq!(rt; transcript.scenario.ring(), 60);
+    // the plain ring isn't printed
+    assert_eq!(rt;
+        fault_of(rt.alloc(), b"crowd,2\nsteps,0\nring,36\nframe,0\nend,0\n"),
+        at(2, TranscriptCause::Spelling)
     );
     Ok(())
 }

@@ -1,9 +1,10 @@
 // Lines of every kind, as the format has them.
-ghost use Rattle.frame_text.specs.Printed.{FitsBody};
+ghost use Rattle.frame_text.specs.Printed.{FitsAgent, FitsBody};
 
+use crate::agent_line::agent_line;
 use crate::printed::Printed;
 use crate::{write_end, write_frame};
-use crowd_data::{Body, Frame, Goal, Mark, Post, SCRIPT, ScriptPost, Segment};
+use crowd_data::{Agent, Body, Frame, Goal, Mark, Post, SCRIPT, ScriptPost, Segment};
 use fixed_vec::{List, V2};
 use outside_io::MemSink;
 use std::test::Fail;
@@ -83,4 +84,33 @@ fn marks(rt: HostRuntime) -> Result<(), Fail> {
         b"body,0,-1,2,3,-4,5,6,crowded,7\n".as_slice()
     );
     Ok(())
+}
+
+fn agent() -> Agent
+    ensures { FitsAgent result }
+{
+    Agent {
+        pos: V2 { x: -1, y: 2 },
+        vel: V2 { x: 3, y: -4 },
+        pref: V2 { x: 5, y: 6 },
+        radius: 7,
+        speed: 8,
+        range: 9,
+        most: 10,
+        horizon: 11,
+        wall_horizon: 12,
+        weight: 1,
+    }
+}
+
+#[test]
+fn agents_in_both_versions(rt: HostRuntime) {
+    assert_eq!(rt;
+        agent_line(1, &agent()).bytes(),
+        b"agent,-1,2,3,-4,5,6,7,8,9,10,11,12\n".as_slice()
+    );
+    assert_eq!(rt;
+        agent_line(2, &agent()).bytes(),
+        b"agent,-1,2,3,-4,5,6,7,8,9,10,11,12,1\n".as_slice()
+    );
 }

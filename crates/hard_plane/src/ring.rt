@@ -159,8 +159,8 @@ impl Ring<36> {
 }
 
 impl Ring<60> {
-    /// The fine ring: 60 points at distance 325. Its polygons lose at most 0.6 hundredths of a speed, where
-    /// those of the plain ring lose up to 1.1.
+    /// The fine ring: 60 points at distance 325. Its polygons cut off at most 0.6 per cent of a speed, where
+    /// those of the plain ring cut off just over 1.
     pub fn fine() -> Ring<60>
         ensures radius { result.radius ≡ ring_radius FINE_RING }
         ensures points { result.points ≡ ring_points FINE_RING }

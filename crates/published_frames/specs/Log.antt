@@ -38,7 +38,7 @@ after_entries told (entry ∷ rest) = after_entries (after_entry told entry) res
 
 -- no scenario
 abbrev pub no_parts : Parts
-no_parts = record { steps = 0; agents = []; segments = []; posts = []; goals = [] }
+no_parts = record { version = 0; ring = 0; steps = 0; agents = []; segments = []; posts = []; goals = [] }
 
 -- what a log without entries tells
 abbrev pub no_account : Account

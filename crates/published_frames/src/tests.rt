@@ -17,9 +17,11 @@ use std::thread;
 // A scenario of so many steps without agents.
 fn empty_crowd(alloc: Global, steps: u32) -> Result<Scenario, NoMemory>
     requires { steps < 100 }
-    ensures { IfOk result (λ scenario. scenario ≡ record { steps = steps; agents = []; segments = []; posts = []; goals = [] }) }
+    ensures { IfOk result (λ scenario. scenario ≡ record { version = 1; ring = 36; steps = steps; agents = []; segments = []; posts = []; goals = [] }) }
 {
     Ok(Scenario::of(
+        1,
+        36,
         steps,
         List::with_room(alloc, 0)?,
         List::with_room(alloc, 0)?,

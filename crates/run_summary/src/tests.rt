@@ -23,6 +23,7 @@ const STANDING: Agent = Agent {
     most: 10,
     horizon: 10,
     wall_horizon: 4,
+    weight: 1,
 };
 
 const BODY: Body = Body {
@@ -60,6 +61,8 @@ fn scenario_of(alloc: Global, steps: u32) -> Result<Scenario, NoMemory>
     let mut agents = List::with_room(alloc, 1)?;
     agents.push(STANDING);
     Ok(Scenario::of(
+        1,
+        36,
         steps,
         agents,
         List::with_room(alloc, 0)?,

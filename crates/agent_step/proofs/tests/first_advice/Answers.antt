@@ -12,7 +12,7 @@ use Rattle.agent_step.proofs.tests.first_advice.Goals as goal
 
 pub tree_over-requires-clause-placed : goal.tree_over-requires-clause-placed
 tree_over-requires-clause-placed c =
-    let places : c.items.result.now ≡ map place_of c.args.scenario.now.agents = c.items.ensures ∙ c.in_ok-places.ensures ∙ ap (map place_of) c.agents-2.ensures.value in
+    let places : c.items.result.now ≡ map place_of c.args.scenario.now.agents = c.items.ensures ∙ c.in_ok-places.ensures ∙ ap (map place_of) c.agents.ensures.value in
     subst (All IsPlaced) (sym places) (all_places c.args.scenario.now.agents c.agents.ensures.valid.agents)
 
 pub of-crowd-requires-clause-present : goal.of-crowd-requires-clause-present
@@ -23,4 +23,4 @@ pub of-crowd-requires-clause-places : goal.of-crowd-requires-clause-places
 of-crowd-requires-clause-places c =
     let agents = c.args.scenario.now.agents in
     let bodies : c.in_ok-frame.frame.bodies.items ≡ starting_bodies 0 agents = ap (λ (frame : Snapshot). frame.bodies) c.in_ok-frame.ensures in
-    c.items-2.ensures ∙ c.in_ok-places.ensures ∙ ap (map place_of) (c.agents-2.ensures.value ∙ sym (crowd_of-start 0 agents) ∙ sym (ap (λ (bodies : List Body). crowd_of agents bodies) bodies))
+    c.items-2.ensures ∙ c.in_ok-places.ensures ∙ ap (map place_of) (c.agents.ensures.value ∙ sym (crowd_of-start 0 agents) ∙ sym (ap (λ (bodies : List Body). crowd_of agents bodies) bodies))
