@@ -141,7 +141,7 @@ fn opened_row(alloc: Global, count: u32, workers: u32) -> Result<Stepper, NoMemo
     ensures steps { IfOk result (λ stepper. stepper.scenario.steps ≡ 2) }
 {
     let scenario = Scenario::of(
-        1,
+        2,
         36,
         2,
         row_of(alloc, count)?,
