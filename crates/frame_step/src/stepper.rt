@@ -19,6 +19,7 @@ use run_law::every_step_is_safe;
 use std::alloc::Global;
 use std::marker::Model;
 use std::mem::swap;
+use std::thread::Threads;
 
 /// The run of a scenario up to its present frame. It holds all memory that its steps need.
 #[derive(Drop)]
@@ -100,26 +101,31 @@ impl Stepper {
     /// The step is safe: every body stays clear of every segment, and stays off it throughout the step and
     /// its wall horizon; no velocity is longer than its agent's speed; and discs keep apart by the laws of
     /// pairs.
-    pub fn step(&mut self, posts: &[Post])
+    pub fn step<R: Threads + Sync>(&mut self, rt: &R, posts: &[Post])
         requires below { self.old.frame.number < self.old.scenario.steps }
         requires posts { All (IsPost (length self.old.scenario.agents)) posts.now }
         ensures scenario { self.new.scenario ≡ self.old.scenario }
         ensures next { IsNext self.old.scenario self.old.frame posts.now self.new.frame }
         ensures safe { IsSafeStep self.old.scenario self.old.frame self.new.frame }
     {
-        self.step_gated(posts, &OpenGate);
+        self.step_gated(rt, posts, &OpenGate);
     }
 
     /// The same step, with a gate that each worker passes before each of its pieces. As long as one worker
     /// does all, the gate isn't asked.
-    pub fn step_gated<G: Gate + Sync>(&mut self, posts: &[Post], gate: &G)
+    pub fn step_gated<R: Threads + Sync, G: Gate + Sync>(
+        &mut self,
+        rt: &R,
+        posts: &[Post],
+        gate: &G,
+    )
         requires below { self.old.frame.number < self.old.scenario.steps }
         requires posts { All (IsPost (length self.old.scenario.agents)) posts.now }
         ensures scenario { self.new.scenario ≡ self.old.scenario }
         ensures next { IsNext self.old.scenario self.old.frame posts.now self.new.frame }
         ensures safe { IsSafeStep self.old.scenario self.old.frame self.new.frame }
     {
-        let _gate = gate;
+        let (_rt, _gate) = (rt, gate);
         take_all(&mut self.frame.bodies, posts);
         let agents = self.scenario.agents();
         place_all(&mut self.places, agents, self.frame.bodies.items());

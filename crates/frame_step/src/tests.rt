@@ -6,6 +6,7 @@ use crowd_data::{Agent, Frame, Mark, Scenario};
 use fixed_vec::{List, NoMemory, V2};
 use std::alloc::Global;
 use std::test::Fail;
+use std::thread::Threads;
 
 const ORIGIN: V2 = V2 { x: 0, y: 0 };
 
@@ -45,12 +46,12 @@ fn opened(alloc: Global) -> Result<Stepper, NoMemory>
 }
 
 // A step without posts, of which a caller learns the number of its frame.
-fn make_step(stepper: &mut Stepper)
+fn make_step<R: Threads + Sync>(rt: &R, stepper: &mut Stepper)
     requires below { stepper.old.frame.number < stepper.old.scenario.steps }
     ensures scenario { stepper.new.scenario ≡ stepper.old.scenario }
     ensures number { stepper.new.frame.number ≡ stepper.old.frame.number + 1 }
 {
-    stepper.step(&[]);
+    stepper.step(rt, &[]);
 }
 
 // Whether two bodies stand at these places, both with this mark.
@@ -67,9 +68,9 @@ fn stand_at(frame: &Frame, first: V2, second: V2, mark: Mark) -> bool {
 fn each_step_is_made_from_one_frame(rt: HostRuntime) -> Result<(), Fail> {
     let second = V2 { x: 1800, y: 0 };
     let mut stepper = opened(rt.alloc())?;
-    make_step(&mut stepper);
+    make_step(&rt, &mut stepper);
     assert!(rt; stand_at(stepper.frame(), V2 { x: -300, y: 0 }, second, Mark::Crowded));
-    make_step(&mut stepper);
+    make_step(&rt, &mut stepper);
     assert!(rt;
         stand_at(
             stepper.frame(),

@@ -30,7 +30,7 @@ fn words_that_are_no_command(rt: HostRuntime) -> Result<(), Fail> {
         ],
     ];
     for words in lists.iter() {
-        let ended = ask(rt.alloc(), words, ONE_AGENT)?;
+        let ended = ask(&rt, rt.alloc(), words, ONE_AGENT)?;
         assert_eq!(rt; ended.status, 2);
         assert_eq!(rt; ended.out.held(), b"".as_slice());
         assert_eq!(rt;
@@ -43,8 +43,8 @@ fn words_that_are_no_command(rt: HostRuntime) -> Result<(), Fail> {
 
 #[test]
 fn workers_change_no_byte(rt: HostRuntime) -> Result<(), Fail> {
-    let one = ask(rt.alloc(), &["run"], ONE_AGENT)?;
-    let three = ask(rt.alloc(), &["run", "--workers=3"], ONE_AGENT)?;
+    let one = ask(&rt, rt.alloc(), &["run"], ONE_AGENT)?;
+    let three = ask(&rt, rt.alloc(), &["run", "--workers=3"], ONE_AGENT)?;
     assert_eq!(rt; three.status, 0);
     assert_eq!(rt; three.out.held().len(), 144);
     assert_eq!(rt; three.out.held(), one.out.held());
@@ -55,10 +55,10 @@ fn workers_change_no_byte(rt: HostRuntime) -> Result<(), Fail> {
 fn check_says_how_large_a_scenario_is(rt: HostRuntime) -> Result<(), Fail> {
     let input: &[u8] =
         b"crowd,1\nsteps,7\nagent,0,0,0,0,0,0,500,400,15000,10,10,4\nsegment,-2000,500,2000,500\npost,1,0,100,0\npost,1,0,0,100\ngoal,3,0,9,9,5\n";
-    let ended = ask(rt.alloc(), &["check"], input)?;
+    let ended = ask(&rt, rt.alloc(), &["check"], input)?;
     assert_eq!(rt; ended.status, 0);
     assert_eq!(rt; ended.out.held(), b"accepted,1,1,2,1,7\n".as_slice());
-    let refused = ask(rt.alloc(), &["check"], b"crowd,1\n")?;
+    let refused = ask(&rt, rt.alloc(), &["check"], b"crowd,1\n")?;
     assert_eq!(rt; refused.status, 3);
     assert_eq!(rt; refused.out.held(), b"".as_slice());
     Ok(())
@@ -68,7 +68,7 @@ fn check_says_how_large_a_scenario_is(rt: HostRuntime) -> Result<(), Fail> {
 #[test]
 fn sample_of_one_agent(rt: HostRuntime) -> Result<(), Fail> {
     let words = ["sample", "--steps", "0", "--number=0", "--agents", "01"];
-    let ended = ask(rt.alloc(), &words, b"nothing")?;
+    let ended = ask(&rt, rt.alloc(), &words, b"nothing")?;
     assert_eq!(rt; ended.status, 0);
     assert_eq!(rt;
         ended.out.held(),
@@ -80,14 +80,14 @@ fn sample_of_one_agent(rt: HostRuntime) -> Result<(), Fail> {
 #[test]
 fn soak_of_one_agent(rt: HostRuntime) -> Result<(), Fail> {
     let words = ["soak", "--number", "0", "--agents", "1", "--steps", "1"];
-    let ended = ask(rt.alloc(), &words, b"nothing")?;
+    let ended = ask(&rt, rt.alloc(), &words, b"nothing")?;
     assert_eq!(rt; ended.status, 0);
     assert_eq!(rt;
         ended.out.held(),
         b"soak,1,1,1,0,0,0,0,-2228,-1702\n".as_slice()
     );
     let none = ["soak", "--number", "0", "--agents", "1", "--steps", "0"];
-    let ended = ask(rt.alloc(), &none, b"nothing")?;
+    let ended = ask(&rt, rt.alloc(), &none, b"nothing")?;
     assert_eq!(rt;
         ended.out.held(),
         b"soak,0,1,0,0,0,0,0,-2426,-1881\n".as_slice()
@@ -106,7 +106,7 @@ fn soak_of_four_thousand_agents(rt: HostRuntime) -> Result<(), Fail> {
         "4000",
         "--number=7",
     ];
-    let ended = ask(rt.alloc(), &words, b"nothing")?;
+    let ended = ask(&rt, rt.alloc(), &words, b"nothing")?;
     assert_eq!(rt; ended.status, 0);
     assert_eq!(rt;
         ended.out.held(),

@@ -10,9 +10,11 @@ use command_words::{WordsFault, read_command};
 use outside_io::{Gate, Sink, Source};
 use run_law::every_run_is_safe;
 use std::alloc::Global;
+use std::thread::Threads;
 
 // Runs the command that the words name.
-fn work<S: Source, T: Sink, G: Gate + Sync>(
+fn work<S: Source, T: Sink, R: Threads + Sync, G: Gate + Sync>(
+    rt: &R,
     alloc: Global,
     words: &[&str],
     source: &mut S,
@@ -31,7 +33,7 @@ fn work<S: Source, T: Sink, G: Gate + Sync>(
     match scenario_for(alloc, command, source) {
         Ok(scenario) => {
             every_run_is_safe(&scenario);
-            write_output(alloc, command, scenario, out, gate)
+            write_output(rt, alloc, command, scenario, out, gate)
         }
         Err(status) => status,
     }
@@ -60,7 +62,8 @@ fn work<S: Source, T: Sink, G: Gate + Sync>(
 /// They are tried in the order 2, 4 and 6, 3, 5; memory may run out in any of these places before the first
 /// byte is written. A failure of `err` changes no status. What is promised of each status stands in
 /// `KeepsPromise` (specs/Promise), and what each command reads and writes in specs/Output.
-pub fn offline<S: Source, T: Sink, E: Sink, G: Gate + Sync>(
+pub fn offline<S: Source, T: Sink, E: Sink, R: Threads + Sync, G: Gate + Sync>(
+    rt: &R,
     alloc: Global,
     words: &[&str],
     source: &mut S,
@@ -73,7 +76,7 @@ pub fn offline<S: Source, T: Sink, E: Sink, G: Gate + Sync>(
         (record { left = S.left source.new; reads = S.faults source.new; held = T.held out.new; writes = T.faults out.new })
         (record { held = E.held err.old; faults = E.faults err.old }) (record { held = E.held err.new; faults = E.faults err.new }) result }
 {
-    let status = work(alloc, words, source, out, gate);
+    let status = work(rt, alloc, words, source, out, gate);
     report(err, status);
     code(status)
 }

@@ -19,9 +19,11 @@ use frame_step::Stepper;
 use frame_text::write_scenario;
 use outside_io::{Failed, Gate, Sink};
 use std::alloc::Global;
+use std::thread::Threads;
 
 // The transcript of the scenario's run.
-fn write_transcript<T: Sink, G: Gate + Sync>(
+fn write_transcript<T: Sink, R: Threads + Sync, G: Gate + Sync>(
+    rt: &R,
     alloc: Global,
     scenario: Scenario,
     workers: u32,
@@ -37,14 +39,15 @@ fn write_transcript<T: Sink, G: Gate + Sync>(
     let Ok(mut stepper) = Stepper::open(alloc, scenario, workers) else {
         return Status::NoMemory;
     };
-    match write_run(out, &mut stepper, &mut script, gate) {
+    match write_run(rt, out, &mut stepper, &mut script, gate) {
         Ok(()) => Status::Done,
         Err(Failed) => Status::WriteFault,
     }
 }
 
 // The summary of the scenario's run.
-fn write_run_summary<T: Sink, G: Gate + Sync>(
+fn write_run_summary<T: Sink, R: Threads + Sync, G: Gate + Sync>(
+    rt: &R,
     alloc: Global,
     scenario: Scenario,
     workers: u32,
@@ -60,7 +63,7 @@ fn write_run_summary<T: Sink, G: Gate + Sync>(
     let Ok(mut stepper) = Stepper::open(alloc, scenario, workers) else {
         return Status::NoMemory;
     };
-    match write_soak(out, &mut stepper, &mut script, gate) {
+    match write_soak(rt, out, &mut stepper, &mut script, gate) {
         Ok(()) => Status::Done,
         Err(Failed) => Status::WriteFault,
     }
@@ -87,7 +90,8 @@ fn write_text<T: Sink>(scenario: &Scenario, out: &mut T) -> Status
 }
 
 /// Writes what the command writes of its scenario. All memory is taken before the first byte is written.
-pub(crate) fn write_output<T: Sink, G: Gate + Sync>(
+pub(crate) fn write_output<T: Sink, R: Threads + Sync, G: Gate + Sync>(
+    rt: &R,
     alloc: Global,
     command: Command,
     scenario: Scenario,
@@ -98,9 +102,9 @@ pub(crate) fn write_output<T: Sink, G: Gate + Sync>(
     ensures { WroteOne (IsTextFor command scenario) (record { held = T.held out.old; faults = T.faults out.old }) (record { held = T.held out.new; faults = T.faults out.new }) result }
 {
     match command {
-        Command::Run { workers } => write_transcript(alloc, scenario, workers, out, gate),
+        Command::Run { workers } => write_transcript(rt, alloc, scenario, workers, out, gate),
         Command::Check => write_size(&scenario, out),
         Command::Sample { .. } => write_text(&scenario, out),
-        Command::Soak { workers, .. } => write_run_summary(alloc, scenario, workers, out, gate),
+        Command::Soak { workers, .. } => write_run_summary(rt, alloc, scenario, workers, out, gate),
     }
 }

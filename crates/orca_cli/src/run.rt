@@ -12,9 +12,11 @@ use fixed_vec::List;
 use frame_step::Stepper;
 use frame_text::{write_end, write_frame, write_scenario};
 use outside_io::{Failed, Gate, Sink};
+use std::thread::Threads;
 
 // Writes the frames of all steps, of which none was made yet, and the line at the end.
-fn write_steps<T: Sink, G: Gate + Sync>(
+fn write_steps<T: Sink, R: Threads + Sync, G: Gate + Sync>(
+    rt: &R,
     out: &mut T,
     stepper: &mut Stepper,
     script: &mut List<Post>,
@@ -28,7 +30,7 @@ fn write_steps<T: Sink, G: Gate + Sync>(
     let steps = stepper.scenario().steps();
     let mut place = 0;
     while stepper.frame().number < steps {
-        place = step_scripted(stepper, script, place, gate);
+        place = step_scripted(rt, stepper, script, place, gate);
         write_frame(out, stepper.frame(), script.items())?;
     }
     write_end(out, stepper.frame().number)
@@ -36,7 +38,8 @@ fn write_steps<T: Sink, G: Gate + Sync>(
 
 /// Writes the transcript of the run whose frame 0 is the present one, with its scripted posts. `script` has
 /// room for all of them.
-pub(crate) fn write_run<T: Sink, G: Gate + Sync>(
+pub(crate) fn write_run<T: Sink, R: Threads + Sync, G: Gate + Sync>(
+    rt: &R,
     out: &mut T,
     stepper: &mut Stepper,
     script: &mut List<Post>,
@@ -49,5 +52,5 @@ pub(crate) fn write_run<T: Sink, G: Gate + Sync>(
 {
     write_scenario(out, stepper.scenario())?;
     write_frame(out, stepper.frame(), &[])?;
-    write_steps(out, stepper, script, gate)
+    write_steps(rt, out, stepper, script, gate)
 }

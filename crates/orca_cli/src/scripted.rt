@@ -9,10 +9,12 @@ use crowd_data::{Post, push_script};
 use fixed_vec::List;
 use frame_step::Stepper;
 use outside_io::Gate;
+use std::thread::Threads;
 
 /// Makes the next frame with its scripted posts, which it leaves in `script`. `place` is where they begin
 /// among all scripted posts; the answer is where those of later frames begin.
-pub(crate) fn step_scripted<G: Gate + Sync>(
+pub(crate) fn step_scripted<R: Threads + Sync, G: Gate + Sync>(
+    rt: &R,
     stepper: &mut Stepper,
     script: &mut List<Post>,
     place: usize,
@@ -32,6 +34,6 @@ pub(crate) fn step_scripted<G: Gate + Sync>(
     let number = stepper.frame().number + 1;
     script.clear();
     let later = push_script(script, posts, place, number);
-    stepper.step_gated(script.items(), gate);
+    stepper.step_gated(rt, script.items(), gate);
     later
 }

@@ -4,6 +4,7 @@ use fixed_vec::{List, NoMemory};
 use outside_io::{MemSink, MemSource, OpenGate};
 use std::alloc::Global;
 use std::test::Fail;
+use std::thread::Threads;
 
 const ONE_AGENT: &[u8] = b"crowd,1\nsteps,1\nagent,0,0,0,0,300,0,500,400,15000,0,10,4\n";
 
@@ -60,32 +61,48 @@ const NONE: Faults = Faults {
     err: None,
 };
 
-fn run_on(alloc: Global, words: &[&str], input: List<u8>, faults: Faults) -> Result<Ended, Fail> {
+fn run_on<R: Threads + Sync>(
+    rt: &R,
+    alloc: Global,
+    words: &[&str],
+    input: List<u8>,
+    faults: Faults,
+) -> Result<Ended, Fail> {
     let mut source = MemSource::of(input, 4096, fails_of(alloc, faults.source)?);
     let mut out = MemSink::open(alloc, ROOM, fails_of(alloc, faults.out)?)?;
     let mut err = MemSink::open(alloc, ROOM, fails_of(alloc, faults.err)?)?;
-    let status = orca(alloc, words, &mut source, &mut out, &mut err, &OpenGate);
+    let status = orca(rt, alloc, words, &mut source, &mut out, &mut err, &OpenGate);
     Ok(Ended { status, out, err })
 }
 
 /// Runs the words over an input, where nothing fails.
-pub(crate) fn ask(alloc: Global, words: &[&str], input: &[u8]) -> Result<Ended, Fail> {
-    run_on(alloc, words, bytes_of(alloc, input)?, NONE)
+pub(crate) fn ask<R: Threads + Sync>(
+    rt: &R,
+    alloc: Global,
+    words: &[&str],
+    input: &[u8],
+) -> Result<Ended, Fail> {
+    run_on(rt, alloc, words, bytes_of(alloc, input)?, NONE)
 }
 
-fn run(alloc: Global, input: &[u8]) -> Result<Ended, Fail> {
-    run_on(alloc, &["run"], bytes_of(alloc, input)?, NONE)
+fn run<R: Threads + Sync>(rt: &R, alloc: Global, input: &[u8]) -> Result<Ended, Fail> {
+    run_on(rt, alloc, &["run"], bytes_of(alloc, input)?, NONE)
 }
 
 /// Whether the run of an input ends with these lines.
-pub(crate) fn ends_with(alloc: Global, input: &[u8], lines: &[u8]) -> Result<bool, Fail> {
-    let ended = run(alloc, input)?;
+pub(crate) fn ends_with<R: Threads + Sync>(
+    rt: &R,
+    alloc: Global,
+    input: &[u8],
+    lines: &[u8],
+) -> Result<bool, Fail> {
+    let ended = run(rt, alloc, input)?;
     Ok(ended.status == 0 && ended.out.held().ends_with(lines))
 }
 
 #[test]
 fn prints_one_agent(rt: HostRuntime) -> Result<(), Fail> {
-    let ended = run(rt.alloc(), ONE_AGENT)?;
+    let ended = run(&rt, rt.alloc(), ONE_AGENT)?;
     assert_eq!(rt; ended.status, 0);
     let text: &[u8] =
         b"crowd,1\nsteps,1\nagent,0,0,0,0,300,0,500,400,15000,0,10,4\nframe,0\nbody,0,0,0,0,0,300,0,start,0\nframe,1\nbody,0,300,0,300,0,300,0,feasible,0\nend,1\n";
@@ -97,7 +114,7 @@ fn prints_one_agent(rt: HostRuntime) -> Result<(), Fail> {
 
 #[test]
 fn prints_no_agents(rt: HostRuntime) -> Result<(), Fail> {
-    let ended = run(rt.alloc(), b"crowd,1\nsteps,1\n")?;
+    let ended = run(&rt, rt.alloc(), b"crowd,1\nsteps,1\n")?;
     assert_eq!(rt; ended.status, 0);
     assert_eq!(rt;
         ended.out.held(),
@@ -109,6 +126,7 @@ fn prints_no_agents(rt: HostRuntime) -> Result<(), Fail> {
 #[test]
 fn prints_no_steps(rt: HostRuntime) -> Result<(), Fail> {
     let ended = run(
+        &rt,
         rt.alloc(),
         b"crowd,1\nsteps,0\nagent,0,0,0,0,300,0,500,400,15000,0,10,4\n",
     )?;
@@ -128,7 +146,7 @@ fn each_line_is_one_piece(rt: HostRuntime) -> Result<(), Fail> {
             ..NONE
         };
         let input = bytes_of(rt.alloc(), ONE_AGENT)?;
-        let ended = run_on(rt.alloc(), &["run"], input, faults)?;
+        let ended = run_on(&rt, rt.alloc(), &["run"], input, faults)?;
         let mut size = 0usize;
         for line in ONE_AGENT_LINES.iter().take(call as usize) {
             size = size.wrapping_add(line.len());
@@ -147,7 +165,7 @@ fn third_write_fails(rt: HostRuntime) -> Result<(), Fail> {
         ..NONE
     };
     let input = bytes_of(rt.alloc(), ONE_AGENT)?;
-    let ended = run_on(rt.alloc(), &["run"], input, faults)?;
+    let ended = run_on(&rt, rt.alloc(), &["run"], input, faults)?;
     assert_eq!(rt; ended.status, 5);
     assert_eq!(rt; ended.out.held(), b"crowd,1\nsteps,1\n".as_slice());
     Ok(())
@@ -160,7 +178,7 @@ fn first_read_fails(rt: HostRuntime) -> Result<(), Fail> {
         ..NONE
     };
     let input = bytes_of(rt.alloc(), ONE_AGENT)?;
-    let ended = run_on(rt.alloc(), &["run"], input, faults)?;
+    let ended = run_on(&rt, rt.alloc(), &["run"], input, faults)?;
     assert_eq!(rt; ended.status, 4);
     assert_eq!(rt; ended.out.held(), b"".as_slice());
     assert_eq!(rt; ended.err.held(), b"read fault\n".as_slice());
@@ -173,7 +191,13 @@ fn failing_error_output_changes_no_status(rt: HostRuntime) -> Result<(), Fail> {
         err: Some(0),
         ..NONE
     };
-    let ended = run_on(rt.alloc(), &["walk"], bytes_of(rt.alloc(), b"")?, faults)?;
+    let ended = run_on(
+        &rt,
+        rt.alloc(),
+        &["walk"],
+        bytes_of(rt.alloc(), b"")?,
+        faults,
+    )?;
     assert_eq!(rt; ended.status, 2);
     assert_eq!(rt; ended.err.held(), b"".as_slice());
     Ok(())
@@ -186,7 +210,7 @@ fn input_is_one_byte_too_long(rt: HostRuntime) -> Result<(), Fail> {
         input.reserve(1)?;
         input.push(b'\n');
     }
-    let ended = run_on(rt.alloc(), &["run"], input, NONE)?;
+    let ended = run_on(&rt, rt.alloc(), &["run"], input, NONE)?;
     assert_eq!(rt; ended.status, 6);
     assert_eq!(rt; ended.out.held(), b"".as_slice());
     assert_eq!(rt; ended.err.held(), b"input too long\n".as_slice());
@@ -249,7 +273,7 @@ fn names_the_first_cause(rt: HostRuntime) -> Result<(), Fail> {
         ),
     ];
     for (input, line) in refused.iter() {
-        let ended = run(rt.alloc(), input)?;
+        let ended = run(&rt, rt.alloc(), input)?;
         assert_eq!(rt; ended.status, 3);
         assert_eq!(rt; ended.out.held(), b"".as_slice());
         assert_eq!(rt; ended.err.held(), *line);
@@ -261,6 +285,7 @@ fn names_the_first_cause(rt: HostRuntime) -> Result<(), Fail> {
 #[test]
 fn reads_records_as_csv_does(rt: HostRuntime) -> Result<(), Fail> {
     let ended = run(
+        &rt,
         rt.alloc(),
         b"\xef\xbb\xbfcrowd,\"1\"\r\n\r\nsteps,01\r\nagent,-0,0,0,0,300,0,500,400,15000,0,10,4",
     )?;
@@ -270,13 +295,18 @@ fn reads_records_as_csv_does(rt: HostRuntime) -> Result<(), Fail> {
 }
 
 // The body of frame 1 of an agent that is alone.
-fn first_step(alloc: Global, agent: &[u8], line: &[u8]) -> Result<bool, Fail> {
+fn first_step<R: Threads + Sync>(
+    rt: &R,
+    alloc: Global,
+    agent: &[u8],
+    line: &[u8],
+) -> Result<bool, Fail> {
     let mut input = bytes_of(alloc, b"crowd,1\nsteps,1\n")?;
     for byte in agent {
         input.reserve(1)?;
         input.push(*byte);
     }
-    let ended = run_on(alloc, &["run"], input, NONE)?;
+    let ended = run_on(rt, alloc, &["run"], input, NONE)?;
     Ok(ended.status == 0 && ended.out.held().ends_with(line))
 }
 
@@ -284,7 +314,7 @@ fn first_step(alloc: Global, agent: &[u8], line: &[u8]) -> Result<bool, Fail> {
 fn corner_of_the_polygon(rt: HostRuntime) -> Result<(), Fail> {
     let agent: &[u8] = b"agent,0,0,0,0,1000,0,500,66,15000,10,10,4\n";
     let line: &[u8] = b"frame,1\nbody,0,65,0,65,0,1000,0,feasible,0\nend,1\n";
-    assert_eq!(rt; first_step(rt.alloc(), agent, line)?, true);
+    assert_eq!(rt; first_step(&rt, rt.alloc(), agent, line)?, true);
     Ok(())
 }
 
@@ -292,9 +322,9 @@ fn corner_of_the_polygon(rt: HostRuntime) -> Result<(), Fail> {
 fn polygon_is_one_point(rt: HostRuntime) -> Result<(), Fail> {
     let line: &[u8] = b"frame,1\nbody,0,0,0,0,0,5,0,feasible,0\nend,1\n";
     let still: &[u8] = b"agent,0,0,0,0,5,0,500,0,15000,10,10,4\n";
-    assert_eq!(rt; first_step(rt.alloc(), still, line)?, true);
+    assert_eq!(rt; first_step(&rt, rt.alloc(), still, line)?, true);
     let slow: &[u8] = b"agent,0,0,0,0,5,0,500,1,15000,10,10,4\n";
-    assert_eq!(rt; first_step(rt.alloc(), slow, line)?, true);
+    assert_eq!(rt; first_step(&rt, rt.alloc(), slow, line)?, true);
     Ok(())
 }
 
@@ -302,7 +332,7 @@ fn polygon_is_one_point(rt: HostRuntime) -> Result<(), Fail> {
 fn largest_numbers(rt: HostRuntime) -> Result<(), Fail> {
     let agent: &[u8] = b"agent,4194304,0,0,0,16384,0,32768,16384,65536,64,4096,4096\n";
     let line: &[u8] = b"frame,1\nbody,0,4210687,0,16383,0,16384,0,feasible,0\nend,1\n";
-    assert_eq!(rt; first_step(rt.alloc(), agent, line)?, true);
+    assert_eq!(rt; first_step(&rt, rt.alloc(), agent, line)?, true);
     Ok(())
 }
 
@@ -310,6 +340,7 @@ fn largest_numbers(rt: HostRuntime) -> Result<(), Fail> {
 #[test]
 fn walks_on(rt: HostRuntime) -> Result<(), Fail> {
     let ended = run(
+        &rt,
         rt.alloc(),
         b"crowd,1\nsteps,2\nagent,-5,-2,9,9,180,-75,500,400,0,0,1,1\n",
     )?;

@@ -5,10 +5,12 @@ ghost use Rattle.orca_cli.specs.Promise.{KeepsPromise};
 use crate::commands::offline;
 use outside_io::{Gate, Sink, Source};
 use std::alloc::Global;
+use std::thread::Threads;
 
 /// The whole program over a source, two sinks and a gate: it runs the command that the words name, and
 /// answers its status. The commands, the statuses and their causes are those of [`offline`].
-pub fn orca<S: Source, T: Sink, E: Sink, G: Gate + Sync>(
+pub fn orca<S: Source, T: Sink, E: Sink, R: Threads + Sync, G: Gate + Sync>(
+    rt: &R,
     alloc: Global,
     words: &[&str],
     source: &mut S,
@@ -21,5 +23,5 @@ pub fn orca<S: Source, T: Sink, E: Sink, G: Gate + Sync>(
         (record { left = S.left source.new; reads = S.faults source.new; held = T.held out.new; writes = T.faults out.new })
         (record { held = E.held err.old; faults = E.faults err.old }) (record { held = E.held err.new; faults = E.faults err.new }) result }
 {
-    offline(alloc, words, source, out, err, gate)
+    offline(rt, alloc, words, source, out, err, gate)
 }

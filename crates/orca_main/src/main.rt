@@ -44,6 +44,7 @@ fn main(rt: HostRuntime) -> ExitCode {
         return without_words(&mut err);
     };
     let status = orca(
+        &rt,
         alloc,
         words.as_slice(),
         &mut source,
