@@ -8,7 +8,8 @@ use Rattle.frame_text.specs.Lines.{end_line}
 use Rattle.frame_text.specs.Transcript.{IsTranscript, frame_text, frames_text, last_number, scenario_text, transcript_text}
 use Rattle.published_frames.specs.declared.entry.Step.{Step}
 use Rattle.published_frames.specs.History.{Continues, IsHistory, frame_of, last_of}
-use Rattle.live_session.specs.Running.{frames_of, lists_of, text_so_far}
+use Rattle.controller_turns.specs.Turns.{frames_of}
+use Rattle.live_session.specs.Running.{lists_of, text_so_far}
 
 frames_text-append : (history : List Step) (step : Step) → frames_text (lists_of (history ++ step ∷ [])) (map frame_of (history ++ step ∷ [])) ≡ frames_text (lists_of history) (map frame_of history) ++ frame_text (frame_of step) step.posts
 frames_text-append [] step = append-nil (frame_text (frame_of step) step.posts)

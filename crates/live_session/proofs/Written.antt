@@ -19,7 +19,7 @@ use Rattle.published_frames.specs.History.{AreInRange, Continues, IsHistory, fra
 use Rattle.published_frames.specs.Names.{writer_history, writer_source}
 use Rattle.published_frames.proofs.Histories.{continues_more, last_of-append}
 use Rattle.live_session.specs.LiveText.{AreLiveLists, IsLiveList, IsLiveTextSoFar, SinkState, WroteLivePart}
-use Rattle.live_session.specs.Running.{IsRunning, lists_of, step_to, text_so_far}
+use Rattle.live_session.specs.Running.{IsPublished, IsRunning, lists_of, step_to, text_so_far}
 use Rattle.live_session.specs.declared.fault.LiveFault.{LiveFault}
 use Rattle.live_session.specs.declared.fault.LiveFault.TheVariants.{WriteFault, NoMemory}
 use Rattle.live_session.proofs.Listed.{listed_more}
@@ -83,7 +83,7 @@ part_of scenario history old new fault legal lists written later cause =
 -- the run is as it was, and it ended for another reason than the sink
 pub ended_here : (start now : SinkState) (writer : FrameWriter) (course : Course) → IsRunning start now writer course → WroteLivePart course.scenario start now NoMemory
 ended_here start now writer course r =
-    part_of course.scenario (writer_history writer) start now NoMemory r.legal r.posts (prefix_whole start.held now.held (text_so_far course.scenario (writer_history writer)) r.written) r.later (λ e. absurd cc)
+    part_of course.scenario (writer_history writer) start now NoMemory r.published.legal r.posts (prefix_whole start.held now.held (text_so_far course.scenario (writer_history writer)) r.written) r.later (λ e. absurd cc)
 
 -- the frame was made, and a prefix of its text was written
 pub broken_off : (start before now : SinkState) (writer : FrameWriter) (course : Course) (next : Snapshot) (posts : List Post) (fault : LiveFault) → IsRunning start before writer course
@@ -93,7 +93,7 @@ pub broken_off : (start before now : SinkState) (writer : FrameWriter) (course :
 broken_off start before now writer course next posts fault r step near list written later cause =
     let history = writer_history writer in
     let scenario = course.scenario in
-    let by : IsFollowedBy scenario history course.frame next posts = record { legal = r.legal; lists = r.posts; present = r.frame; number = r.number; step = step; in_range = near; list = list } in
+    let by : IsFollowedBy scenario history course.frame next posts = record { legal = r.published.legal; lists = r.posts; present = r.published.frame; number = r.published.number; step = step; in_range = near; list = list } in
     let text = text_so_far-append scenario history (step_to next posts) in
     part_of scenario (history ++ step_to next posts ∷ []) start now fault (legal_more scenario history course.frame next posts by) (lists_more scenario history course.frame next posts by)
     (subst (AppendsPrefix start.held now.held) (sym text) (prefix_then start.held before.held now.held (text_so_far scenario history) (frame_text next posts) r.written written))
@@ -107,7 +107,7 @@ pub running_next : (start before now : SinkState) (writer after : FrameWriter) (
 running_next start before now writer after course next posts r step near list written later same source history =
     let old = writer_history writer in
     let scenario = course.scenario in
-    let by : IsFollowedBy scenario old course.frame next.frame posts = record { legal = r.legal; lists = r.posts; present = r.frame; number = r.number; step = step; in_range = near; list = list } in
+    let by : IsFollowedBy scenario old course.frame next.frame posts = record { legal = r.published.legal; lists = r.posts; present = r.published.frame; number = r.published.number; step = step; in_range = near; list = list } in
     let more = step_to next.frame posts in
     let count = length-append old (more ∷ []) in
     let text = text_so_far-append scenario old more in
@@ -115,12 +115,13 @@ running_next start before now writer after course next posts r step near list wr
     let lists : AreLiveLists scenario 1 (lists_of (old ++ more ∷ [])) = lists_more scenario old course.frame next.frame posts by in
     let whole : Appends start.held now.held (text_so_far scenario (old ++ more ∷ [])) = subst (Appends start.held now.held) (sym text) (Appends-trans start.held before.held now.held (text_so_far scenario old) (frame_text next.frame posts) r.written written) in
     let here : next.frame ≡ last_of (start_of scenario) (old ++ more ∷ []) = sym (last_of-append (start_of scenario) old more) in
-    let at : Parts × List Step = (scenario, old ++ more ∷ []) in
     record {
-      scenario = ap (λ s. s.1) source ∙ (r.scenario ∙ sym same);
-      frame = here ∙ (λ i. last_of (start_of (sym same i)) (sym history i));
-      number = step.number ∙ (omega (arith, r.number, count, ap length history));
-      legal = subst (λ (x : Parts × List Step). IsHistory x.0 x.1) (λ i. (sym same i, sym history i)) legal;
+      published = record {
+        scenario = ap (λ s. s.1) source ∙ (r.published.scenario ∙ sym same);
+        frame = here ∙ (λ i. last_of (start_of (sym same i)) (sym history i));
+        number = step.number ∙ (omega (arith, r.published.number, count, ap length history));
+        legal = subst (λ (x : Parts × List Step). IsHistory x.0 x.1) (λ i. (sym same i, sym history i)) legal;
+      };
       posts = subst (λ (x : Parts × List Step). AreLiveLists x.0 1 (lists_of x.1)) (λ i. (sym same i, sym history i)) lists;
       written = subst (λ (x : Parts × List Step). Appends start.held now.held (text_so_far x.0 x.1)) (λ i. (sym same i, sym history i)) whole;
       later = omega (arith, r.later, later);

@@ -13,6 +13,7 @@ use Rattle.published_frames.specs.declared.writer.FrameWriter.{FrameWriter}
 use Rattle.published_frames.specs.History.{IsHistory, frame_of, last_of}
 use Rattle.published_frames.specs.Names.{writer_history, writer_source}
 use Rattle.published_frames.specs.Taken.{posts_of}
+use Rattle.controller_turns.specs.Turns.{frames_of}
 use Rattle.live_session.specs.LiveText.{AreLiveLists, SinkState}
 
 -- the step that led to this frame with these posts
@@ -23,20 +24,20 @@ step_to frame posts = record { posts = posts; number = frame.number; bodies = fr
 abbrev pub lists_of : List Step → List (List Post)
 lists_of history = map (λ (step : Step). step.posts) history
 
--- its frames, from frame 0 on
-abbrev pub frames_of : Parts → List Step → List Snapshot
-frames_of scenario history = start_of scenario ∷ map frame_of history
-
 -- the text of the scenario and of these frames
 abbrev pub text_so_far : Parts → List Step → List ℕ
 text_so_far scenario history = scenario_text scenario ++ frames_text ([] ∷ lists_of history) (frames_of scenario history)
 
--- the run has come to its present frame: that and all frames before it are published and written
-pub record IsRunning (start now : SinkState) (writer : FrameWriter) (course : Course) : Type 0 where
+-- the present frame of the run is the one that was published last
+pub record IsPublished (writer : FrameWriter) (course : Course) : Type 0 where
   pub scenario : (writer_source writer).1 ≡ course.scenario
   pub frame : course.frame ≡ last_of (start_of course.scenario) (writer_history writer)
   pub number : course.frame.number ≡ length (writer_history writer)
   pub legal : IsHistory course.scenario (writer_history writer)
+
+-- and all frames up to it are written
+pub record IsRunning (start now : SinkState) (writer : FrameWriter) (course : Course) : Type 0 where
+  pub published : IsPublished writer course
   pub posts : AreLiveLists course.scenario 1 (lists_of (writer_history writer))
   pub written : Appends start.held now.held (text_so_far course.scenario (writer_history writer))
   pub later : start.faults ≤ now.faults

@@ -5,6 +5,10 @@
 mod desk;
 mod fault;
 mod gathering;
+mod joining;
+mod own_turns;
+mod starting;
+mod steered;
 mod stepping;
 
 pub use fault::LiveFault;

@@ -36,9 +36,8 @@ fn write_next<R: Threads + Sync, T: Sink, G: Gate + Sync>(
     ensures text { Wrote (T.held out.old) (T.held out.new) result (frame_text stepper.new.frame posts.now) }
     ensures cause { HasCause (T.faults out.old) (T.faults out.new) result }
 {
-    let _rt = rt;
     let _valid = stepper.scenario();
-    stepper.step_gated(posts, gate);
+    stepper.step_gated(rt, posts, gate);
     write_frame(out, stepper.frame(), posts)
 }
 
