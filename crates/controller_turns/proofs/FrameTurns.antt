@@ -144,7 +144,7 @@ back_few t most each [] list e = let l = ap length e in omega arith
 back_few t most each (frame ∷ before) list h = ⊎_elim
     (λ (x : TurnsBack t before list). let l = back_few t most each before list x in let m = mul_more (length before) most in omega arith)
     (λ (x : (rest : List Preference) × (list ≡ rest ++ t frame) × TurnsBack t before rest).
-        let l = back_few t most each before x.0 x.2 in let a = each frame in let b = ap length x.1 in let d = length-append x.0 (t frame) in let m = mul_more (length before) most in omega arith)
+    let l = back_few t most each before x.0 x.2 in let a = each frame in let b = ap length x.1 in let d = length-append x.0 (t frame) in let m = mul_more (length before) most in omega arith)
     h
 
 -- no more than a turn on each frame

@@ -15,7 +15,12 @@ use std::sync::Wait;
 
 /// What a controller's turns give back: the controller, its poster, its reader, and the number of the frame of its last
 /// turn, if it had one, or that memory ran out.
-pub type Turns = (Controller, Poster, FrameReader, Result<Option<u32>, NoMemory>);
+pub type Turns = (
+    Controller,
+    Poster,
+    FrameReader,
+    Result<Option<u32>, NoMemory>,
+);
 
 // Whether the frame of this number comes after that of the last turn.
 fn is_newer(last: Option<u32>, number: u32) -> bool
@@ -85,7 +90,15 @@ pub fn turns<J: Writes, R: Wait, G: Gate>(
         if let Some(told) = told {
             reader.learn(told.into_note());
         }
-        let (back, done) = read_and_turn(rt, gate, posts, &mut controller, &mut poster, reader, last);
+        let (back, done) = read_and_turn(
+            rt,
+            gate,
+            posts,
+            &mut controller,
+            &mut poster,
+            reader,
+            last,
+        );
         reader = back;
         let now = match done {
             Ok(now) => now,
