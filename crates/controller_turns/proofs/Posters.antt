@@ -116,16 +116,16 @@ room_for_turn scenario goals mine most since posted h l s p =
 turn_more : (goals : List Goal) (place : ℕ) (none : Goal) (frame : Snapshot) → place < length goals → turn (take (place + 1) goals) frame ≡ turn (take place goals) frame ++ preference_for frame (slice_index_or goals place none) ∷ []
 turn_more goals place none frame h = ap (λ l. turn l frame) (take_more goals place none h) ∙ map-append (preference_for frame) (take place goals) (slice_index_or goals place none ∷ [])
 
-pub posted_more : (old now new : PosterState) (goals : List Goal) (place : ℕ) (none : Goal) (frame : Snapshot) → place < length goals → now ≡ after_preferences old (turn (take place goals) frame)
+pub posted_more : (old now new : PosterState) (goals : List Goal) (place : ℕ) (none : Goal) (frame : Snapshot) → now ≡ after_preferences old (turn (take place goals) frame) → place < length goals
     → new ≡ after_preferences now (preference_for frame (slice_index_or goals place none) ∷ []) → new ≡ after_preferences old (turn (take (place + 1) goals) frame)
-posted_more old now new goals place none frame h e f =
+posted_more old now new goals place none frame e h f =
     let more = preference_for frame (slice_index_or goals place none) ∷ [] in
     f ∙ (ap (λ p. after_preferences p more) e ∙ (sym (after_preferences-append old (turn (take place goals) frame) more) ∙ ap (after_preferences old) (sym (turn_more goals place none frame h))))
 
 -- what a poster has in the midst of a turn
-pub posted_amid : (old now : PosterState) (goals : List Goal) (place : ℕ) (frame : Snapshot) → place ≤ length goals → now ≡ after_preferences old (turn (take place goals) frame)
+pub posted_amid : (old now : PosterState) (goals : List Goal) (place : ℕ) (frame : Snapshot) → now ≡ after_preferences old (turn (take place goals) frame) → place < length goals
     → IsSamePoster old now × (length now.posts ≡ length old.posts + place) × HasPostedSome old (turn goals frame) now
-posted_amid old now goals place frame h e =
+posted_amid old now goals place frame e h =
     let some = turn_posted old now (take place goals) frame e in
     let count = length-take place goals in
     let parts : turn goals frame ≡ turn (take place goals) frame ++ turn (drop place goals) frame = ap (λ l. turn l frame) (sym (take-append-drop place goals)) ∙ map-append (preference_for frame) (take place goals) (drop place goals) in

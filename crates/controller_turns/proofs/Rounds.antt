@@ -7,13 +7,9 @@ use Rattle.crowd_data.specs.Scenario.{Parts}
 use Rattle.post_box.specs.Ends.{PosterState}
 use Rattle.published_frames.specs.declared.entry.Step.{Step}
 use Rattle.published_frames.specs.History.{StartsWith, last_of}
-use Rattle.controller_turns.specs.Turns.{Preference, TurnsTo, frames_of, preference_of, preferences_of, turn}
+use Rattle.controller_turns.specs.Turns.{IsNewer, Preference, TurnsTo, frames_of, preference_of, preferences_of, turn}
 use Rattle.controller_turns.specs.Controllers.{ControllerState, HasPostedTurns, IsSamePoster, Suits, posts_of_run}
 use Rattle.controller_turns.proofs.FrameTurns.{turned_amid, turned_few_before, turned_longer}
-
-pub by_true : (P Q : Type 0) (b : Bool) → MatchBool b P Q → b ≡ true → P
-by_true P Q true m e = m
-by_true P Q false m e = absurd (true≢false (sym e))
 
 -- the whole history begins with itself
 begins : (history : List Step) → StartsWith history history
@@ -28,22 +24,22 @@ turned_read goals scenario old seen later poster last w e h =
 -- a turn on its last frame
 pub turn_read : (goals : List Goal) (scenario shown : Parts) (old seen later : List Step) (before after : PosterState) (frame : Snapshot) (last : Option ℕ) (number : ℕ)
     → shown ≡ scenario → StartsWith seen old → later ≡ seen → frame ≡ last_of (start_of shown) seen → number ≡ length seen
-    → HasPostedTurns goals scenario old before last → MatchOption last (Unit {0}) (λ turned. turned < number) → preferences_of after.posts ≡ preferences_of before.posts ++ turn goals frame
+    → HasPostedTurns goals scenario old before last → IsNewer last number → preferences_of after.posts ≡ preferences_of before.posts ++ turn goals frame
     → TurnsTo (turn goals) (frames_of scenario later) (preferences_of after.posts) number
 turn_read goals scenario shown old seen later before after frame last number es w el ef en h l posted =
     let t : Snapshot → List Preference = turn goals in
     let earlier = turned_longer t scenario seen old (preferences_of before.posts) last w h in
-    let here = turned_amid t scenario seen seen (preferences_of before.posts) last (begins seen) earlier (subst (λ (n : ℕ). MatchOption last (Unit {0}) (λ turned. turned < n)) en l) in
+    let here = turned_amid t scenario seen seen (preferences_of before.posts) last (begins seen) earlier (subst (λ (n : ℕ). IsNewer last n) en l) in
     let same : frame ≡ last_of (start_of scenario) seen = ef ∙ ap (λ s. last_of (start_of s) seen) es in
     let list : preferences_of before.posts ++ t (last_of (start_of scenario) seen) ≡ preferences_of after.posts = sym (posted ∙ ap (λ f. preferences_of before.posts ++ t f) same) in
     subst (λ (x : List Step × List Preference × ℕ). TurnsTo t (frames_of scenario x.0) x.1 x.2) (λ i. (sym el i, list i, sym en i)) here
 
 -- there is room for it
 pub room_to_turn : (goals : List Goal) (scenario shown : Parts) (old seen : List Step) (poster : PosterState) (last : Option ℕ) (number : ℕ) → shown ≡ scenario → StartsWith seen old → length seen ≤ shown.steps → number ≡ length seen
-    → HasPostedTurns goals scenario old poster last → MatchOption last (Unit {0}) (λ turned. turned < number) → length poster.posts + length goals ≤ posts_of_run scenario goals
+    → HasPostedTurns goals scenario old poster last → IsNewer last number → length poster.posts + length goals ≤ posts_of_run scenario goals
 room_to_turn goals scenario shown old seen poster last number es w few en h l =
     let earlier = turned_longer (turn goals) scenario seen old (preferences_of poster.posts) last w h in
-    let before = turned_few_before goals scenario seen (preferences_of poster.posts) last earlier (subst (λ (n : ℕ). MatchOption last (Unit {0}) (λ turned. turned < n)) en l) in
+    let before = turned_few_before goals scenario seen (preferences_of poster.posts) last earlier (subst (λ (n : ℕ). IsNewer last n) en l) in
     let count = length-map poster.posts preference_of in
     let steps : length seen ≤ scenario.steps = let e = ap (λ (s : Parts). s.steps) es in omega (arith, e, few) in
     let same : length goals ≤ length goals = omega arith in

@@ -1,7 +1,8 @@
 // A controller's turns, one after another.
-ghost use Rattle.std.specs.Prelude.{◌≡◌, ◌<◌, ◌≤◌, IfOk, MatchBool, MatchOption, OnOk, [], length};
+ghost use Rattle.std.specs.Prelude.{◌≡◌, ◌≤◌, IfOk, MatchBool, OnOk, [], length};
 ghost use Rattle.post_box.specs.Ends.{IsPosterOf};
 ghost use Rattle.published_frames.specs.Names.{reader_seen, reader_source};
+ghost use Rattle.controller_turns.specs.Turns.{IsNewer, IsReached};
 ghost use Rattle.controller_turns.specs.Controllers.{Ends, HasPostedTurns, IsSamePoster, Suits, posts_of_run};
 
 use crate::controller::Controller;
@@ -22,9 +23,9 @@ pub type Turns = (
     Result<Option<u32>, NoMemory>,
 );
 
-// Whether the frame of this number comes after that of the last turn.
-fn is_newer(last: Option<u32>, number: u32) -> bool
-    ensures { MatchBool result (MatchOption last (Unit {0}) (λ turned. turned < number)) (MatchOption last ⊥ (λ turned. number ≤ turned)) }
+/// Whether the frame of this number comes after that of the last turn, if there was one.
+pub fn is_newer(last: Option<u32>, number: u32) -> bool
+    ensures { MatchBool result (IsNewer last number) (IsReached last number) }
 {
     match last {
         None => true,
