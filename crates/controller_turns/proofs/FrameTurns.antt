@@ -7,7 +7,7 @@ use Rattle.crowd_data.specs.Scenario.{Parts}
 use Rattle.crowd_data.specs.declared.post.Goal.{Goal}
 use Rattle.published_frames.specs.declared.entry.Step.{Step}
 use Rattle.published_frames.specs.History.{StartsWith, frame_of, last_of}
-use Rattle.controller_turns.specs.Turns.{HasTurned, Preference, TurnsBack, TurnsOn, TurnsTo, frames_of, preference_for, turn}
+use Rattle.controller_turns.specs.Turns.{HasTurned, IsNewer, Preference, TurnsBack, TurnsOn, TurnsTo, frames_of, preference_for, turn}
 
 -- ---- turns on some frames
 
@@ -117,20 +117,20 @@ turned_longer t scenario all history list (Some number) w h =
     subst (λ (l : List Snapshot). TurnsTo t l list number) (sym (ap (frames_of scenario) w.1 ∙ frames_of-append scenario history w.0)) (to_longer t (frames_of scenario history) (map frame_of w.0) list number h)
 
 -- the turns so far were on the frames in front, where the last one was on one of them
-earlier_on : (t : Snapshot → List Preference) (front more : List Snapshot) (list : List Preference) (last : Option ℕ) → HasTurned t (front ++ more) list last → MatchOption last (Unit {0}) (λ number. number < length front) → TurnsOn t front list
+earlier_on : (t : Snapshot → List Preference) (front more : List Snapshot) (list : List Preference) (last : Option ℕ) → HasTurned t (front ++ more) list last → IsNewer last (length front) → TurnsOn t front list
 earlier_on t front more list None h l = subst (λ (p : List Preference). TurnsOn t front p) (sym h) (on_all t front)
 earlier_on t front more list (Some number) h l = to_on t front list number (to_shorter t front more list number h l)
 
 -- a turn on the last frame of a history, seen in a longer one, where the last turn so far was on an earlier frame
 pub turned_amid : (t : Snapshot → List Preference) (scenario : Parts) (all history : List Step) (list : List Preference) (last : Option ℕ) → StartsWith all history → HasTurned t (frames_of scenario all) list last
-    → MatchOption last (Unit {0}) (λ number. number < length history) → TurnsTo t (frames_of scenario all) (list ++ t (last_of (start_of scenario) history)) (length history)
+    → IsNewer last (length history) → TurnsTo t (frames_of scenario all) (list ++ t (last_of (start_of scenario) history)) (length history)
 turned_amid t scenario all history list last w h l =
     let first = start_of scenario in
     let r = split_last first history in
     let f = last_of first history in
     let more = map frame_of w.0 in
     let e : frames_of scenario all ≡ r.0 ++ f ∷ more = ap (frames_of scenario) w.1 ∙ (frames_of-append scenario history w.0 ∙ (ap (λ l. l ++ more) r.1 ∙ append_assoc r.0 (f ∷ []) more)) in
-    let on : TurnsOn t r.0 list = earlier_on t r.0 (f ∷ more) list last (subst (λ (l : List Snapshot). HasTurned t l list last) e h) (subst (λ (n : ℕ). MatchOption last (Unit {0}) (λ number. number < n)) (sym r.2) l) in
+    let on : TurnsOn t r.0 list = earlier_on t r.0 (f ∷ more) list last (subst (λ (l : List Snapshot). HasTurned t l list last) e h) (subst (λ (n : ℕ). IsNewer last n) (sym r.2) l) in
     let next : TurnsTo t ((r.0 ++ f ∷ []) ++ more) (list ++ t f) (length r.0) = to_longer t (r.0 ++ f ∷ []) more (list ++ t f) (length r.0) (to_next t r.0 f list on) in
     subst (λ (x : List Snapshot × ℕ). TurnsTo t x.0 (list ++ t f) x.1) (λ i. ((append_assoc r.0 (f ∷ []) more ∙ sym e) i, r.2 i)) next
 
@@ -144,7 +144,7 @@ back_few t most each [] list e = let l = ap length e in omega arith
 back_few t most each (frame ∷ before) list h = ⊎_elim
     (λ (x : TurnsBack t before list). let l = back_few t most each before list x in let m = mul_more (length before) most in omega arith)
     (λ (x : (rest : List Preference) × (list ≡ rest ++ t frame) × TurnsBack t before rest).
-        let l = back_few t most each before x.0 x.2 in let a = each frame in let b = ap length x.1 in let d = length-append x.0 (t frame) in let m = mul_more (length before) most in omega arith)
+    let l = back_few t most each before x.0 x.2 in let a = each frame in let b = ap length x.1 in let d = length-append x.0 (t frame) in let m = mul_more (length before) most in omega arith)
     h
 
 -- no more than a turn on each frame
@@ -168,8 +168,8 @@ turned_few goals scenario history list (Some number) h =
 
 -- nor before a turn on the last frame than a turn on each frame before it
 pub turned_few_before : (goals : List Goal) (scenario : Parts) (history : List Step) (list : List Preference) (last : Option ℕ) → HasTurned (turn goals) (frames_of scenario history) list last
-    → MatchOption last (Unit {0}) (λ number. number < length history) → length list ≤ length history * length goals
+    → IsNewer last (length history) → length list ≤ length history * length goals
 turned_few_before goals scenario history list last h l =
     let r = split_last (start_of scenario) history in
-    let on = earlier_on (turn goals) r.0 (last_of (start_of scenario) history ∷ []) list last (subst (λ (x : List Snapshot). HasTurned (turn goals) x list last) r.1 h) (subst (λ (n : ℕ). MatchOption last (Unit {0}) (λ number. number < n)) (sym r.2) l) in
+    let on = earlier_on (turn goals) r.0 (last_of (start_of scenario) history ∷ []) list last (subst (λ (x : List Snapshot). HasTurned (turn goals) x list last) r.1 h) (subst (λ (n : ℕ). IsNewer last n) (sym r.2) l) in
     subst (λ (n : ℕ). length list ≤ n * length goals) r.2 (turns_few goals r.0 list on)

@@ -1,7 +1,9 @@
 -- What a poster has after it posted preferences.
-use Rattle.std.proofs.Common.{◌≡◌, ℕ, suc, ◌*◌, ◌+◌, ◌<◌, ◌≤◌, List, [], ◌∷◌, ◌++◌, length, map, refl, ap, sym, ◌∙◌, subst, arith, append_assoc, length-append, mul-le-mul}
+use Rattle.std.proofs.Common.{◌≡◌, ℕ, ◌*◌, ◌+◌, ◌<◌, ◌≤◌, ◌==◌, not, List, [], ◌∷◌, ◌++◌, drop, take, slice_index_or, length, length-take, refl, ap, sym, ◌∙◌, subst, arith, append_assoc, length-append, mul-le-mul}
 use Rattle.std.specs.List.{All}
-use Rattle.std.proofs.lemmas.List.{append-nil, length-map, map-append}
+use Rattle.std.proofs.lemmas.List.{append-nil, length-map, map-append, take-append-drop, take_more}
+use Rattle.std.proofs.lemmas.List.Elements.{All-filter}
+use Rattle.std.proofs.lemmas.List.Filters.{length-filter_both}
 use Rattle.crowd_data.specs.declared.frame.Body.{Body}
 use Rattle.crowd_data.specs.declared.post.Goal.{Goal}
 use Rattle.crowd_data.specs.Limits.{IsGoal}
@@ -10,7 +12,7 @@ use Rattle.crowd_data.specs.Run.{Snapshot}
 use Rattle.crowd_data.specs.Scenario.{Parts}
 use Rattle.post_box.specs.Ends.{PosterState, after_posting, next_post}
 use Rattle.published_frames.specs.History.{AreInRange, IsReadable}
-use Rattle.controller_turns.specs.Turns.{Preference, goals_of, preference_of, preferences_of, turn}
+use Rattle.controller_turns.specs.Turns.{Preference, goals_of, preference_for, preference_of, preferences_of, turn}
 use Rattle.controller_turns.specs.Controllers.{CanTurn, HasPostedSome, IsSamePoster, after_preferences, posts_of_run}
 use Rattle.controller_turns.proofs.FrameTurns.{length-turn}
 
@@ -54,15 +56,15 @@ turn_posted old new goals frame e =
     let same : IsSamePoster old new = subst (IsSamePoster old) (sym e) (same-after_preferences old (turn goals frame)) in
     let list : preferences_of new.posts ≡ preferences_of old.posts ++ turn goals frame = ap (λ (p : PosterState). preferences_of p.posts) e ∙ preferences-after_preferences old (turn goals frame) in
     let count : length new.posts ≡ length old.posts + length goals =
-        let a = ap (λ (p : PosterState). length p.posts) e in
-        let b = length-after_preferences old (turn goals frame) in
-        let d = length-turn goals frame in
-        omega (arith, a, b, d) in
+    let a = ap (λ (p : PosterState). length p.posts) e in
+    let b = length-after_preferences old (turn goals frame) in
+    let d = length-turn goals frame in
+    omega (arith, a, b, d) in
     (same, list, count)
 
 -- and after one that was cut short
 pub some_posted : (old new : PosterState) (list : List Preference) → HasPostedSome old list new → IsSamePoster old new
-some_posted old new list h = subst (IsSamePoster old) (sym h.2.2) (same-after_preferences old h.0)
+some_posted old new list h = subst (IsSamePoster old) (sym h.3) (same-after_preferences old h.0)
 
 -- ---- frames on which a controller can turn
 
@@ -87,11 +89,11 @@ present_can_turn scenario goals frame few present limits = record {
 
 -- they are within their limits
 pub limits-goals_of : (controller agents : ℕ) (goals : List Goal) → All (IsGoal agents) goals → All (IsGoal agents) (goals_of controller goals)
-limits-goals_of controller agents goals all = ?
+limits-goals_of controller agents goals all = All-filter (λ (goal : Goal). goal.controller == controller) (IsGoal agents) goals all
 
 -- and no more than all
 pub few-goals_of : (controller : ℕ) (goals : List Goal) → length (goals_of controller goals) ≤ length goals
-few-goals_of controller goals = ?
+few-goals_of controller goals = let e = length-filter_both (λ (goal : Goal). goal.controller == controller) (λ (goal : Goal). not (goal.controller == controller)) (λ goal. refl) goals in omega (arith, e)
 
 -- ---- room for posts
 
@@ -108,3 +110,23 @@ room_for_turn scenario goals mine most since posted h l s p =
     let a : (scenario.steps + 1 + since + 1) * length mine ≤ (2 * scenario.steps + 3) * length goals = mul-le-mul (omega arith) l in
     let b : (scenario.steps + 1 + since + 1) * length mine ≡ (scenario.steps + 1 + since) * length mine + length mine = omega arith in
     omega (arith, a, b, h, p)
+
+-- ---- one goal more of a turn
+
+turn_more : (goals : List Goal) (place : ℕ) (none : Goal) (frame : Snapshot) → place < length goals → turn (take (place + 1) goals) frame ≡ turn (take place goals) frame ++ preference_for frame (slice_index_or goals place none) ∷ []
+turn_more goals place none frame h = ap (λ l. turn l frame) (take_more goals place none h) ∙ map-append (preference_for frame) (take place goals) (slice_index_or goals place none ∷ [])
+
+pub posted_more : (old now new : PosterState) (goals : List Goal) (place : ℕ) (none : Goal) (frame : Snapshot) → now ≡ after_preferences old (turn (take place goals) frame) → place < length goals
+    → new ≡ after_preferences now (preference_for frame (slice_index_or goals place none) ∷ []) → new ≡ after_preferences old (turn (take (place + 1) goals) frame)
+posted_more old now new goals place none frame e h f =
+    let more = preference_for frame (slice_index_or goals place none) ∷ [] in
+    f ∙ (ap (λ p. after_preferences p more) e ∙ (sym (after_preferences-append old (turn (take place goals) frame) more) ∙ ap (after_preferences old) (sym (turn_more goals place none frame h))))
+
+-- what a poster has in the midst of a turn
+pub posted_amid : (old now : PosterState) (goals : List Goal) (place : ℕ) (frame : Snapshot) → now ≡ after_preferences old (turn (take place goals) frame) → place < length goals
+    → IsSamePoster old now × (length now.posts ≡ length old.posts + place) × HasPostedSome old (turn goals frame) now
+posted_amid old now goals place frame e h =
+    let some = turn_posted old now (take place goals) frame e in
+    let count = length-take place goals in
+    let parts : turn goals frame ≡ turn (take place goals) frame ++ turn (drop place goals) frame = ap (λ l. turn l frame) (sym (take-append-drop place goals)) ∙ map-append (preference_for frame) (take place goals) (drop place goals) in
+    (some.0, omega (arith, some.2, count, h), (turn (take place goals) frame, turn (drop place goals) frame, parts, e))

@@ -1,5 +1,5 @@
 -- What a controller's turns on frames prefer.
-use Rattle.std.specs.Prelude.{◌≡◌, ℕ, ◌==◌, ◌⊎◌, List, [], ◌∷◌, ◌++◌, filter, length, map, reverse, Option, MatchOption}
+use Rattle.std.specs.Prelude.{◌≡◌, ℕ, ◌<◌, ◌≤◌, ◌==◌, ◌⊎◌, List, [], ◌∷◌, ◌++◌, filter, length, map, reverse, Option, MatchOption}
 use Rattle.fixed_vec.specs.declared.vector.V2.{V2}
 use Rattle.crowd_data.specs.declared.post.Goal.{Goal}
 use Rattle.crowd_data.specs.declared.post.Post.{Post}
@@ -56,6 +56,14 @@ pub record TurnsTo (t : Snapshot → List Preference) (frames : List Snapshot) (
 -- no turn yet; or turns on some of these frames, the last one on the frame of this number
 abbrev pub HasTurned : (Snapshot → List Preference) → List Snapshot → List Preference → Option ℕ → Type 0
 HasTurned t frames list last = MatchOption last (list ≡ []) (λ number. TurnsTo t frames list number)
+
+-- the frame of this number comes after that of the last turn, if there was one
+abbrev pub IsNewer : Option ℕ → ℕ → Type 0
+IsNewer last number = MatchOption last (Unit {0}) (λ turned. turned < number)
+
+-- the last turn was on the frame of this number, or on a later one
+abbrev pub IsReached : Option ℕ → ℕ → Type 0
+IsReached last number = MatchOption last ⊥ (λ turned. number ≤ turned)
 
 -- frame 0 of a scenario, and the frames of these steps
 abbrev pub frames_of : Parts → List Step → List Snapshot

@@ -14,4 +14,4 @@ pub use headings::heading;
 pub use notice::{Notice, Stage};
 pub use spawning::{TurnsPromise, begin};
 pub use told::{Told, Writes};
-pub use turn_loop::{Turns, turns};
+pub use turn_loop::{Turns, is_newer, turns};

@@ -1,7 +1,8 @@
 // A controller's turns, one after another.
-ghost use Rattle.std.specs.Prelude.{◌≡◌, ◌<◌, ◌≤◌, IfOk, MatchBool, MatchOption, OnOk, [], length};
+ghost use Rattle.std.specs.Prelude.{◌≡◌, ◌≤◌, IfOk, MatchBool, OnOk, [], length};
 ghost use Rattle.post_box.specs.Ends.{IsPosterOf};
 ghost use Rattle.published_frames.specs.Names.{reader_seen, reader_source};
+ghost use Rattle.controller_turns.specs.Turns.{IsNewer, IsReached};
 ghost use Rattle.controller_turns.specs.Controllers.{Ends, HasPostedTurns, IsSamePoster, Suits, posts_of_run};
 
 use crate::controller::Controller;
@@ -15,11 +16,16 @@ use std::sync::Wait;
 
 /// What a controller's turns give back: the controller, its poster, its reader, and the number of the frame of its last
 /// turn, if it had one, or that memory ran out.
-pub type Turns = (Controller, Poster, FrameReader, Result<Option<u32>, NoMemory>);
+pub type Turns = (
+    Controller,
+    Poster,
+    FrameReader,
+    Result<Option<u32>, NoMemory>,
+);
 
-// Whether the frame of this number comes after that of the last turn.
-fn is_newer(last: Option<u32>, number: u32) -> bool
-    ensures { MatchBool result (MatchOption last (Unit {0}) (λ turned. turned < number)) (MatchOption last ⊥ (λ turned. number ≤ turned)) }
+/// Whether the frame of this number comes after that of the last turn, if there was one.
+pub fn is_newer(last: Option<u32>, number: u32) -> bool
+    ensures { MatchBool result (IsNewer last number) (IsReached last number) }
 {
     match last {
         None => true,
@@ -85,7 +91,15 @@ pub fn turns<J: Writes, R: Wait, G: Gate>(
         if let Some(told) = told {
             reader.learn(told.into_note());
         }
-        let (back, done) = read_and_turn(rt, gate, posts, &mut controller, &mut poster, reader, last);
+        let (back, done) = read_and_turn(
+            rt,
+            gate,
+            posts,
+            &mut controller,
+            &mut poster,
+            reader,
+            last,
+        );
         reader = back;
         let now = match done {
             Ok(now) => now,
