@@ -1,5 +1,5 @@
 mod Prefixes
 mod Adding
 mod Accounts
-mod Histories
+pub mod Histories
 mod Keeping

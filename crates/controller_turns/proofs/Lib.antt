@@ -1,0 +1,4 @@
+pub mod FrameTurns
+pub mod Posters
+pub mod Rounds
+mod Lengths

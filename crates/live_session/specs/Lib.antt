@@ -1,0 +1,3 @@
+pub mod LiveText
+pub mod Running
+pub mod Steering

@@ -1,0 +1,60 @@
+// The posts of the next frame.
+ghost use Rattle.std.specs.Prelude.{◌≡◌, ◌+◌, ◌<◌, ◌≤◌, ◌++◌, length, OnOk};
+ghost use Rattle.crowd_data.specs.Run.{script_of};
+ghost use Rattle.crowd_data.specs.Scripts.{IsCursor};
+ghost use Rattle.post_box.specs.Ends.{IsTakerOf, Transfers};
+
+use crowd_data::{Post, push_script};
+use fixed_vec::{List, NoMemory};
+use frame_step::Stepper;
+use post_box::{MOST_TAKEN, PostBox, Taker};
+use std::sync::Wait;
+
+/// Leaves the scripted posts of the next frame in the list. `place` is where they begin among all scripted posts; the
+/// answer is where those of later frames begin.
+pub(crate) fn list_script(stepper: &Stepper, list: &mut List<Post>, place: usize) -> usize
+    requires below { stepper.now.frame.number < stepper.now.scenario.steps }
+    requires cursor { IsCursor stepper.now.scenario.posts (stepper.now.frame.number + 1) place }
+    requires room { length stepper.now.scenario.posts ≤ length list.old.items + list.old.spare }
+    ensures posts { list.new.items ≡ script_of stepper.now.scenario (stepper.now.frame.number + 1) }
+    ensures cursor { IsCursor stepper.now.scenario.posts (stepper.now.frame.number + 2) result }
+    ensures room { length list.new.items + list.new.spare ≡ length list.old.items + list.old.spare }
+{
+    let posts = stepper.scenario().posts();
+    let number = stepper.frame().number + 1;
+    list.clear();
+    push_script(list, posts, place, number)
+}
+
+/// Leaves the posts of the next frame in the list: the scripted ones, and behind them those that wait in the box.
+pub(crate) fn gather<R: Wait>(
+    rt: &R,
+    stepper: &Stepper,
+    posts: &PostBox,
+    taker: &mut Taker,
+    list: &mut List<Post>,
+    place: usize,
+) -> usize
+    requires below { stepper.now.frame.number < stepper.now.scenario.steps }
+    requires cursor { IsCursor stepper.now.scenario.posts (stepper.now.frame.number + 1) place }
+    requires room { length stepper.now.scenario.posts + MOST_TAKEN ≤ length list.old.items + list.old.spare }
+    requires taker { IsTakerOf posts.now taker.old }
+    ensures moved { Transfers taker.old taker.new (script_of stepper.now.scenario (stepper.now.frame.number + 1)) list.new.items }
+    ensures cursor { IsCursor stepper.now.scenario.posts (stepper.now.frame.number + 2) result }
+    ensures room { length list.new.items + list.new.spare ≡ length list.old.items + list.old.spare }
+{
+    let later = list_script(stepper, list, place);
+    taker.take(rt, posts, list);
+    later
+}
+
+/// Puts posts behind those of a list.
+pub(crate) fn append(list: &mut List<Post>, more: &[Post]) -> Result<(), NoMemory>
+    ensures { OnOk result (list.new.items ≡ list.old.items ++ more.now) }
+{
+    list.reserve(more.len())?;
+    for post in more {
+        list.push(*post);
+    }
+    Ok(())
+}
