@@ -10,7 +10,7 @@ fn words_that_are_no_command(rt: HostRuntime) -> Result<(), Fail> {
         &[],
         &["walk"],
         &["Run"],
-        &["live"],
+        &["live", "extra"],
         &["run", "extra"],
         &["run", "--workers", "0"],
         &["run", "--workers", "65"],

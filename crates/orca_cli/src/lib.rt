@@ -21,6 +21,8 @@ mod command_tests;
 #[cfg(test)]
 mod crowd_tests;
 #[cfg(test)]
+mod live_tests;
+#[cfg(test)]
 mod post_tests;
 #[cfg(test)]
 mod tests;
