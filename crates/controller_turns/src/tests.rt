@@ -1,20 +1,23 @@
-// Headings by worked examples, a turn whose posts are taken, and turns on a thread.
+// Headings by worked examples, a turn whose posts are taken, turns on a thread, and what a notice tells.
 ghost use Rattle.std.specs.Prelude.{◌≡◌, ◌≤◌, [], All, IfOk, length, unsigned_abs};
 ghost use Rattle.crowd_data.specs.Limits.{IsAgent, IsGoal, IsPosition};
+ghost use Rattle.crowd_data.specs.Run.{start_of};
 ghost use Rattle.crowd_data.specs.Scenario.{IsValid};
 ghost use Rattle.post_box.specs.Ends.{IsPosterOf};
-ghost use Rattle.published_frames.specs.Names.{reader_source};
+ghost use Rattle.published_frames.specs.History.{last_of};
+ghost use Rattle.published_frames.specs.Names.{reader_source, writer_history, writer_source};
 ghost use Rattle.controller_turns.specs.Controllers.{Suits};
 
-use crate::{Controller, Notice, Stage, Turns, Writes, begin, heading};
-use crowd_data::{Agent, Goal, Post, Scenario, first_frame};
+use crate::{Controller, Notice, Stage, Told, Turns, Writes, begin, heading};
+use crowd_data::{Agent, Frame, Goal, Moves, Post, Scenario, first_frame};
 use fixed_vec::{List, NoMemory, V2};
-use outside_io::OpenGate;
+use outside_io::{Gate, OpenGate};
 use post_box::{MOST_TAKEN, PostBox, Poster, Taken, finish};
-use published_frames::FrameReader;
+use published_frames::{FrameReader, FrameWriter};
 use std::alloc::Global;
 use std::marker::Brand;
 use std::sync::Wait;
+use std::sync::atomic::{AtomicU64, Ordering};
 use std::test::Fail;
 use std::thread;
 use std::thread::Threads;
@@ -117,6 +120,20 @@ fn two_agents(alloc: Global) -> Result<Scenario, NoMemory>
     ))
 }
 
+// A gate that remembers whose turn it let pass last, and which.
+#[derive(Drop)]
+struct LastPass {
+    who: AtomicU64,
+    turn: AtomicU64,
+}
+
+impl Gate for LastPass {
+    fn pass(&self, who: u32, turn: u64) {
+        self.who.store(u64::from(who), Ordering::SeqCst);
+        self.turn.store(turn, Ordering::SeqCst);
+    }
+}
+
 #[test]
 fn posts_for_each_goal_in_order(rt: HostRuntime) -> Result<(), Fail> {
     let mut into = List::with_room(rt.alloc(), MOST_TAKEN)?;
@@ -124,9 +141,21 @@ fn posts_for_each_goal_in_order(rt: HostRuntime) -> Result<(), Fail> {
     let frame = first_frame(rt.alloc(), &scenario)?;
     let mut controller = Controller::of(1, two_goals(rt.alloc())?);
     let (posts, mut posters, mut taker) = post_box::open(rt.alloc(), 2, 2, 2)?;
+    let gate = LastPass {
+        who: AtomicU64::new(9),
+        turn: AtomicU64::new(9),
+    };
+    controller.pass(&gate);
+    let before = (
+        gate.who.load(Ordering::SeqCst),
+        gate.turn.load(Ordering::SeqCst),
+    );
     let done = controller.turn(&rt, &frame, &mut posters[1], &posts);
+    controller.pass(&gate);
+    let after = gate.turn.load(Ordering::SeqCst);
     let taken = taker.take(&rt, &posts, &mut into);
     let left = finish(&rt, rt.alloc(), posts, posters, taker)?;
+    assert_eq!(rt; (before, after), ((1, 0), 1));
     assert_eq!(rt; done, Ok(()));
     assert_eq!(rt; taken, Taken::Emptied);
     assert_eq!(rt; into.items(), two_posts().as_slice());
@@ -219,5 +248,94 @@ fn an_idle_notice_leaves_none(rt: HostRuntime) -> Result<(), Fail> {
     let (last, posts) = turns_on_frame_zero(&rt, rt.alloc(), Stage::Idle)?;
     assert_eq!(rt; last, None);
     assert_eq!(rt; posts.items().len(), 0);
+    Ok(())
+}
+
+// A writer for a scenario of one step without agents.
+fn writer_of_none<R: Wait>(rt: &R, alloc: Global) -> Result<FrameWriter, NoMemory>
+    ensures steps { IfOk result (λ writer. (writer_source writer).1.steps ≡ 1) }
+    ensures frame { IfOk result (λ writer. last_of (start_of (writer_source writer).1) (writer_history writer) ≡ record { number = 0; bodies = [] }) }
+{
+    let scenario = Scenario::of(
+        1,
+        List::with_room(alloc, 0)?,
+        List::with_room(alloc, 0)?,
+        List::with_room(alloc, 0)?,
+        List::with_room(alloc, 0)?,
+    );
+    let first = first_frame(alloc, &scenario)?;
+    let (writer, _readers) = published_frames::open(rt, alloc, &scenario, &first, 1)?;
+    Ok(writer)
+}
+
+// Publishes frame 1 of a scenario without agents.
+fn publish_first<R: Wait>(rt: &R, alloc: Global, writer: &mut FrameWriter) -> Result<(), NoMemory>
+    requires steps { (writer_source writer.old).1.steps ≡ 1 }
+    requires frame { last_of (start_of (writer_source writer.old).1) (writer_history writer.old) ≡ record { number = 0; bodies = [] } }
+    ensures { writer_source writer.new ≡ writer_source writer.old }
+{
+    let moves = Moves {
+        posts: List::with_room(alloc, 0)?,
+        frame: Frame {
+            number: 1,
+            bodies: List::with_room(alloc, 0)?,
+        },
+    };
+    match writer.publish(rt, moves) {
+        Ok(()) => Ok(()),
+        Err(_) => Err(NoMemory),
+    }
+}
+
+// The frame that a note tells of.
+fn number_of<J: Writes>(told: Option<Told<J>>) -> Option<u32> {
+    match told {
+        Some(told) => Some(told.into_note().number()),
+        None => None,
+    }
+}
+
+// What a notice tells before it is renewed, of frame 0, of frame 1 after a turn on frame 0, once the note is taken out, and
+// at its end.
+fn numbers_told<J: Writes, R: Wait>(
+    rt: &R,
+    alloc: Global,
+    writer: &mut FrameWriter,
+) -> Result<[Option<u32>; 5], NoMemory>
+    requires book { (writer_source writer.old).0 ≡ J.book }
+    requires steps { (writer_source writer.old).1.steps ≡ 1 }
+    requires frame { last_of (start_of (writer_source writer.old).1) (writer_history writer.old) ≡ record { number = 0; bodies = [] } }
+{
+    let notice: Notice<J> = Notice::new();
+    let (before, _) = notice.wait(rt, None);
+    notice.renew(rt, writer, 1);
+    let (first, _) = notice.wait(rt, None);
+    publish_first(rt, alloc, writer)?;
+    notice.renew(rt, writer, 1);
+    let (second, _) = notice.wait(rt, Some(0));
+    let (taken, _) = notice.wait(rt, Some(0));
+    notice.end(rt, Stage::Closed);
+    let (last, _) = notice.wait(rt, Some(1));
+    Ok([
+        number_of(before),
+        number_of(first),
+        number_of(second),
+        number_of(taken),
+        number_of(last),
+    ])
+}
+
+fn numbers_of_a_writer<R: Wait>(rt: &R, alloc: Global) -> Result<[Option<u32>; 5], NoMemory> {
+    let mut writer = writer_of_none(rt, alloc)?;
+    let told = numbers_told::<Brand, R>(rt, alloc, &mut writer);
+    writer.close(rt);
+    told
+}
+
+// A wait that didn't see the newer frame, or the end, would last for ever.
+#[test]
+fn a_notice_tells_each_note_once(rt: HostRuntime) -> Result<(), Fail> {
+    let told = numbers_of_a_writer(&rt, rt.alloc())?;
+    assert_eq!(rt; told, [None, Some(0), Some(1), None, None]);
     Ok(())
 }
