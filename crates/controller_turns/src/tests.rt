@@ -9,7 +9,9 @@ ghost use Rattle.published_frames.specs.Names.{reader_source, writer_history, wr
 ghost use Rattle.controller_turns.specs.Controllers.{Suits};
 
 use crate::{Controller, Notice, Stage, Told, Turns, Writes, begin, heading};
-use crowd_data::{FIRST_VERSION, PLAIN_RING, Agent, Frame, Goal, Moves, Post, Scenario, first_frame};
+use crowd_data::{
+    Agent, FIRST_VERSION, Frame, Goal, Moves, PLAIN_RING, Post, Scenario, first_frame,
+};
 use fixed_vec::{List, NoMemory, V2};
 use outside_io::{Gate, OpenGate};
 use post_box::{MOST_TAKEN, PostBox, Poster, Taken, finish};
