@@ -67,7 +67,7 @@ module _ (s : Parts) (valid : IsValid s) where
             All-from_get_or IsLittle next.bodies no_body
             (λ who h.
             let below : who < length s.agents = omega (arith, h, step.bodies, printable.present.full) in
-            advised_relief s.segments s.agents (after_posts posts frame.bodies) (record { count = posted.full; sound = valid.agents; slow = slow }) who below _ _ _
+            advised_relief s s.agents (after_posts posts frame.bodies) (record { count = posted.full; sound = valid.agents; slow = slow }) who below _ _ _
             (step.moved who (omega (arith, h, step.bodies))).advice);
       }
 
