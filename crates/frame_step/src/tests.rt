@@ -2,7 +2,7 @@
 ghost use Rattle.std.specs.Prelude.{◌≡◌, ◌<◌, ◌+◌, IfOk};
 
 use crate::Stepper;
-use crowd_data::{Agent, Frame, Mark, Scenario};
+use crowd_data::{Agent, FIRST_VERSION, Frame, Mark, PLAIN_RING, Scenario};
 use fixed_vec::{List, NoMemory, V2};
 use std::alloc::Global;
 use std::test::Fail;
@@ -36,8 +36,8 @@ fn opened(alloc: Global) -> Result<Stepper, NoMemory>
         ..WALKER
     });
     let scenario = Scenario::of(
-        1,
-        36,
+        FIRST_VERSION,
+        PLAIN_RING,
         2,
         agents,
         List::with_room(alloc, 0)?,

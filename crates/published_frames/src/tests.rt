@@ -6,7 +6,7 @@ ghost use Rattle.published_frames.specs.History.{CanFollow, last_of, step_of};
 ghost use Rattle.published_frames.specs.Names.{reader_source, writer_history, writer_source};
 
 use crate::{FrameReader, FrameWriter, Unpublished, open};
-use crowd_data::{Frame, Moves, Post, SCRIPT, Scenario, first_frame};
+use crowd_data::{FIRST_VERSION, Frame, Moves, PLAIN_RING, Post, SCRIPT, Scenario, first_frame};
 use fixed_vec::{List, NoMemory, V2};
 use std::alloc::Global;
 use std::sync::Wait;
@@ -20,8 +20,8 @@ fn empty_crowd(alloc: Global, steps: u32) -> Result<Scenario, NoMemory>
     ensures { IfOk result (λ scenario. scenario ≡ record { version = 1; ring = 36; steps = steps; agents = []; segments = []; posts = []; goals = [] }) }
 {
     Ok(Scenario::of(
-        1,
-        36,
+        FIRST_VERSION,
+        PLAIN_RING,
         steps,
         List::with_room(alloc, 0)?,
         List::with_room(alloc, 0)?,

@@ -1,14 +1,14 @@
 // Each law is called once.
 use crate::{every_run_is_safe, every_step_is_safe, next_exists, one_advice, one_next, one_run};
-use crowd_data::Scenario;
+use crowd_data::{FIRST_VERSION, PLAIN_RING, Scenario};
 use fixed_vec::List;
 use std::test::Fail;
 
 #[test]
 fn laws_hold_of_a_scenario(rt: HostRuntime) -> Result<(), Fail> {
     let scenario = Scenario::of(
-        1,
-        36,
+        FIRST_VERSION,
+        PLAIN_RING,
         40,
         List::with_room(rt.alloc(), 0)?,
         List::with_room(rt.alloc(), 0)?,

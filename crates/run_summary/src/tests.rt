@@ -5,7 +5,7 @@ ghost use Rattle.crowd_data.specs.declared.frame.Body.{Body};
 ghost use Rattle.crowd_data.specs.declared.limits.TheConstants.{MOST_AGENTS, MOST_STEPS};
 
 use crate::{Summary, write_summary};
-use crowd_data::{Agent, Body, Frame, Mark, Scenario};
+use crowd_data::{Agent, Body, FIRST_VERSION, Frame, Mark, PLAIN_RING, Scenario};
 use fixed_vec::{List, NoMemory, V2};
 use outside_io::MemSink;
 use std::alloc::Global;
@@ -61,8 +61,8 @@ fn scenario_of(alloc: Global, steps: u32) -> Result<Scenario, NoMemory>
     let mut agents = List::with_room(alloc, 1)?;
     agents.push(STANDING);
     Ok(Scenario::of(
-        1,
-        36,
+        FIRST_VERSION,
+        PLAIN_RING,
         steps,
         agents,
         List::with_room(alloc, 0)?,
