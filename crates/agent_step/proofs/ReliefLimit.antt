@@ -5,9 +5,9 @@ use Rattle.fixed_vec.specs.declared.vector.V2.{V2}
 use Rattle.crowd_data.specs.declared.agent.Agent.{Agent}
 use Rattle.crowd_data.specs.declared.frame.Body.{Body}
 use Rattle.crowd_data.specs.declared.frame.Mark.{Mark}
-use Rattle.crowd_data.specs.Scenario.{Parts}
 use Rattle.crowd_data.specs.Advice.{GivesWay, IsAdvice, agent_at, hard_planes, soft_planes}
 use Rattle.crowd_data.specs.Run.{crowd_of}
+use Rattle.crowd_data.specs.Scenario.{Parts}
 use Rattle.agent_step.specs.Sight.{ArePresent}
 use Rattle.agent_step.proofs.Reliefs.{enough_relief}
 use Rattle.agent_step.proofs.SoftPlanes.{moves-at, soft_sized}

@@ -1,12 +1,13 @@
 -- The text of a transcript reads as its rows, and these are read as its parts.
-use Rattle.std.proofs.Common.{◌≡◌, ◌∙◌, ◌<◌, ◌≤◌, ◌+◌, ap, sym, refl, ℕ, false, List, [], ◌∷◌, ◌++◌, length, map, flat_map, append_assoc, arith, Ok}
-use Rattle.std.specs.Prelude.{codes}
+use Rattle.std.proofs.Common.{◌≡◌, ◌∙◌, ◌<◌, ◌≤◌, ◌+◌, ap, sym, refl, ℕ, Bool, true, false, List, [], ◌∷◌, ◌++◌, length, map, flat_map, append_assoc, arith, Ok}
+use Rattle.std.specs.Prelude.{◌==◌, codes}
 use Rattle.std.specs.List.{AllByRecursion}
 use Rattle.std.proofs.lemmas.List.{append-nil}
 use Rattle.csv.specs.Records.{field_at}
 use Rattle.csv.specs.declared.parser.State.TheVariants as st
 use Rattle.crowd_data.specs.declared.agent.Agent.{Agent}
 use Rattle.crowd_data.specs.declared.frame.Body.{Body}
+use Rattle.crowd_data.specs.declared.limits.TheConstants.{FINE_RING}
 use Rattle.crowd_data.specs.declared.segment.Segment.{Segment}
 use Rattle.crowd_data.specs.declared.post.ScriptPost.{ScriptPost}
 use Rattle.crowd_data.specs.declared.post.Goal.{Goal}
@@ -23,7 +24,7 @@ use Rattle.scenario_read.specs.Records.{Record, records_after, records_of}
 use Rattle.text_law.proofs.Accepted.{no_bom, nothing_left, rows_read, text_is, text_then}
 use Rattle.text_law.proofs.FrameLines.{body_reads, body_row, end_reads, end_row, frame_reads, frame_row, take_reads, take_row}
 use Rattle.text_law.proofs.FramesAdded.{frame_rows, frames_added, last_small, passed}
-use Rattle.text_law.proofs.Lines.{agent_row, goal_row, header_row, post_row, segment_row, steps_row}
+use Rattle.text_law.proofs.Lines.{agent_row, goal_row, header_row, post_row, ring_rows, segment_row, steps_row}
 use Rattle.text_law.proofs.Rows.{lines_read}
 use Rattle.text_law.proofs.RowsAdded.{rows_added, scenario_rows}
 
@@ -83,9 +84,9 @@ none_in_map : {A : Type 0} (kind : List ℕ) (row : A → Record) (each : (x : A
 none_in_map kind row each [] rest h = h
 none_in_map kind row each (x ∷ xs) rest h = (each x, none_in_map kind row each xs rest h)
 
-agent_no_frame : (a : Agent) → is_kind (agent_row a) (codes "frame") ≡ false
+agent_no_frame : (version : ℕ) (a : Agent) → is_kind (agent_row version a) (codes "frame") ≡ false
 unfolding field_at
-agent_no_frame a = refl
+agent_no_frame version a = refl
 
 segment_no_frame : (s : Segment) → is_kind (segment_row s) (codes "frame") ≡ false
 unfolding field_at
@@ -99,9 +100,17 @@ goal_no_frame : (g : Goal) → is_kind (goal_row g) (codes "frame") ≡ false
 unfolding field_at
 goal_no_frame g = refl
 
-header_no_frame : is_kind header_row (codes "frame") ≡ false
+header_no_frame : (version : ℕ) → is_kind (header_row version) (codes "frame") ≡ false
 unfolding field_at
-header_no_frame = refl
+header_no_frame version = refl
+
+rings_no_frame : (points : ℕ) (rest : List Record) → NoneOf (codes "frame") rest → NoneOf (codes "frame") (ring_rows points ++ rest)
+unfolding field_at
+rings_no_frame points rest none = by (points == FINE_RING) refl
+  where
+    by : (fine : Bool) → (points == FINE_RING) ≡ fine → NoneOf (codes "frame") (ring_rows points ++ rest)
+    by true e = rw e (refl, none)
+    by false e = rw e none
 
 steps_no_frame : (n : ℕ) → is_kind (steps_row n) (codes "frame") ≡ false
 unfolding field_at
@@ -113,7 +122,8 @@ scenario_no_frame s =
     let goals = none_in_map frame goal_row goal_no_frame s.goals [] tt in
     let posts = none_in_map frame post_row post_no_frame s.posts _ goals in
     let segments = none_in_map frame segment_row segment_no_frame s.segments _ posts in
-    (header_no_frame, (steps_no_frame s.steps, none_in_map frame agent_row agent_no_frame s.agents _ segments))
+    let agents = none_in_map frame (agent_row s.version) (agent_no_frame s.version) s.agents _ segments in
+    (header_no_frame s.version, (steps_no_frame s.steps, rings_no_frame s.ring _ agents))
 
 frame_first : (n : ℕ) (rest : List Record) → before (codes "frame") (frame_row n ∷ rest) ≡ []
 unfolding field_at
@@ -127,12 +137,12 @@ frames_first (f ∷ frames) rest some = frame_first f.frame.number _
 abbrev transcript_rows : Parts → List PostedFrame → List Record
 transcript_rows s frames = scenario_rows s [] ++ (flat_map frame_rows frames ++ end_row (last_behind 0 frames) ∷ [])
 
-four_then : (a b c d rest : List Record) → a ++ (b ++ (c ++ (d ++ rest))) ≡ (a ++ (b ++ (c ++ (d ++ [])))) ++ rest
-four_then a b c d rest = simp append_assoc
+five_then : (r a b c d rest : List Record) → r ++ (a ++ (b ++ (c ++ (d ++ rest)))) ≡ (r ++ (a ++ (b ++ (c ++ (d ++ []))))) ++ rest
+five_then r a b c d rest = simp append_assoc
 
 regroup : (s : Parts) (rest : List Record) → scenario_rows s rest ≡ scenario_rows s [] ++ rest
 regroup s rest =
-    ap (λ (t : List Record). header_row ∷ steps_row s.steps ∷ t) (four_then (map agent_row s.agents) (map segment_row s.segments) (map post_row s.posts) (map goal_row s.goals) rest)
+    ap (λ (t : List Record). header_row s.version ∷ steps_row s.steps ∷ t) (five_then (ring_rows s.ring) (map (agent_row s.version) s.agents) (map segment_row s.segments) (map post_row s.posts) (map goal_row s.goals) rest)
 
 module _ (s : Parts) (frames : List PostedFrame) (valid : IsValid s) (shaped : IsShaped s frames) where
   last_fits : last_behind 0 frames ≤ 100000

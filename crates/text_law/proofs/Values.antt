@@ -1,25 +1,34 @@
 -- The fields of a row spell the numbers that it was printed from.
-use Rattle.std.proofs.Common.{◌≡◌, ◌∙◌, ◌<◌, ◌≤◌, ◌^◌, ◌&&◌, ap, refl, ℕ, true, arith, Some, ℤ, pos, neg_ℤ, ◌≤ℤ◌, int_le, unsigned_abs, Ok}
+use Rattle.std.proofs.Common.{◌≡◌, ◌∙◌, ◌<◌, ◌≤◌, ◌^◌, ◌&&◌, ap, sym, subst, refl, ℕ, Bool, true, false, length, ◌∷◌, inl, inr, arith, Some, ℤ, pos, neg_ℤ, ◌≤ℤ◌, int_le, unsigned_abs, Ok}
 use Rattle.std.specs.Fmt.{decimal, signed_decimal}
+use Rattle.std.specs.Prelude.{◌==◌, codes}
+use Rattle.std.proofs.lemmas.Bool.Decides.{nat_tests}
+use Rattle.std.proofs.lemmas.Fmt.{decimal_digit}
 use Rattle.std.proofs.lemmas.Int.{ints}
 use Rattle.csv.specs.Records.{field_at}
 use Rattle.fixed_vec.specs.declared.vector.V2.{V2}
 use Rattle.crowd_data.specs.declared.agent.Agent.{Agent}
+use Rattle.crowd_data.specs.declared.limits.TheConstants.{FINE_RING, FIRST_VERSION, PLAIN_RING}
 use Rattle.crowd_data.specs.declared.segment.Segment.{Segment}
 use Rattle.crowd_data.specs.declared.post.ScriptPost.{ScriptPost}
 use Rattle.crowd_data.specs.declared.post.Goal.{Goal}
-use Rattle.crowd_data.specs.Limits.{IsAgent, IsGoal, IsScriptPost, IsSegment, IsWithin}
-use Rattle.scenario_read.specs.AgentRecord.{agent_of, agent_with, motion_in}
+use Rattle.crowd_data.specs.Limits.{IsAgent, IsGoal, IsScriptPost, IsSegment, IsVersion, IsWithin}
+use Rattle.scenario_read.specs.AgentRecord.{agent_fields, agent_of, agent_with, motion_in, weight_in}
 use Rattle.scenario_read.specs.Fields.{field_text}
 use Rattle.scenario_read.specs.Numbers.{number_of}
 use Rattle.scenario_read.specs.GoalRecord.{goal_of}
 use Rattle.scenario_read.specs.PostRecord.{post_of}
+use Rattle.scenario_read.specs.Reading.{header_version}
 use Rattle.scenario_read.specs.Records.{Record}
+use Rattle.scenario_read.specs.RingRecord.{ring_of}
 use Rattle.scenario_read.specs.SegmentRecord.{segment_of}
 use Rattle.scenario_read.specs.StepsRecord.{steps_of}
 use Rattle.scenario_read.specs.Values.{count_in, number_in, vector_in}
-use Rattle.text_law.proofs.Lines.{agent_row, goal_row, post_row, segment_row, steps_row}
+use Rattle.text_law.proofs.Lines.{agent_row, goal_row, header_row, post_row, ring_row, segment_row, steps_row}
 use Rattle.text_law.proofs.Numerals.{decimal_read, signed_read}
+
+equal_is : (a b : ℕ) → (a == b) ≡ true → a ≡ b
+equal_is a b e = grind (arith, nat_tests)
 
 -- ---- a field
 
@@ -55,11 +64,28 @@ unfolding segment_of field_at
 segment_is s h =
     rw (vector_is (segment_row s) 1 2 4194304 s.a refl refl h.a (omega arith), vector_is (segment_row s) 3 4 4194304 s.b refl refl h.b (omega arith)) refl
 
-pub agent_is : (a : Agent) → IsAgent a → agent_of (agent_row a) ≡ Ok a
+-- the weight, where it is 1 in version 1
+weight_is : (version : ℕ) (a : Agent) → IsAgent a → (version ≡ 1 → a.weight ≡ 1) → weight_in version (agent_row version a) ≡ Ok a.weight
+unfolding weight_in field_at
+weight_is version a h plain = by (version == FIRST_VERSION) refl
+  where
+    by : (first : Bool) → (version == FIRST_VERSION) ≡ first → weight_in version (agent_row version a) ≡ Ok a.weight
+    by true e = rw e (ap (λ n. Ok n) (sym (plain (equal_is version FIRST_VERSION e))))
+    by false e = rw e (count_is (codes "agent" ∷ _) 13 1 16 a.weight refl h.build.weight.0 h.build.weight.1 (omega arith))
+
+length_is : (version : ℕ) (a : Agent) → (length (agent_row version a) == agent_fields version) ≡ true
+length_is version a = by (version == FIRST_VERSION) refl
+  where
+    by : (first : Bool) → (version == FIRST_VERSION) ≡ first → (length (agent_row version a) == agent_fields version) ≡ true
+    by true e = rw e refl
+    by false e = rw e refl
+
+pub agent_is : (version : ℕ) (a : Agent) → IsAgent a → (version ≡ 1 → a.weight ≡ 1) → agent_of version (agent_row version a) ≡ Ok a
 unfolding agent_of motion_in agent_with field_at
-agent_is a h =
-    let fields = agent_row a in
+agent_is version a h plain =
+    let fields = agent_row version a in
     rw (
+      length_is version a,
       vector_is fields 1 2 4194304 a.pos refl refl h.pos (omega arith),
       vector_is fields 3 4 16384 a.vel refl refl h.vel (omega arith),
       vector_is fields 5 6 16384 a.pref refl refl h.pref (omega arith),
@@ -69,7 +95,19 @@ agent_is a h =
       count_is fields 10 0 64 a.most refl (omega arith) h.build.most (omega arith),
       count_is fields 11 1 4096 a.horizon refl h.build.some_horizon h.build.horizon (omega arith),
       count_is fields 12 1 4096 a.wall_horizon refl h.build.some_wall_horizon h.build.wall_horizon (omega arith),
+      weight_is version a h plain,
     ) refl
+
+-- the fine ring
+pub ring_is : ring_of (ring_row FINE_RING) ≡ Ok FINE_RING
+unfolding ring_of field_at
+ring_is = rw (count_is (ring_row FINE_RING) 1 PLAIN_RING FINE_RING FINE_RING refl (omega arith) (omega arith) (omega arith)) refl
+
+-- the header of either version
+pub header_is : (version : ℕ) → IsVersion version → header_version (header_row version) ≡ Some version
+unfolding field_at
+header_is version (inl e) = subst (λ v. header_version (header_row v) ≡ Some v) (sym e) (rw (decimal_digit 1 (omega arith)) refl)
+header_is version (inr e) = subst (λ v. header_version (header_row v) ≡ Some v) (sym e) (rw (decimal_digit 2 (omega arith)) refl)
 
 pub post_is : (steps agents : ℕ) → steps ≤ 100000 → agents ≤ 10000 → (p : ScriptPost) → IsScriptPost steps agents p → post_of (post_row p) ≡ Ok p
 unfolding post_of field_at

@@ -11,6 +11,8 @@ use std::test::Fail;
 #[test]
 fn laws_of_the_smallest_scenario(rt: HostRuntime) -> Result<(), Fail> {
     let scenario = Scenario::of(
+        1,
+        36,
         0,
         List::with_room(rt.alloc(), 0)?,
         List::with_room(rt.alloc(), 0)?,
@@ -53,5 +55,20 @@ fn text_with_posts_and_goals(rt: HostRuntime) -> Result<(), Fail> {
     assert_eq!(rt; scenario.goals().len(), 2);
     let out = written(rt.alloc(), &scenario)?;
     assert!(rt; is_same(out.held(), text));
+    Ok(())
+}
+
+#[test]
+fn text_of_version_2(rt: HostRuntime) -> Result<(), Fail> {
+    let text =
+        b"crowd,2\nsteps,1\nring,60\nagent,0,0,0,0,0,0,500,800,15000,10,10,4,3\nagent,0,0,0,0,0,0,500,800,15000,10,10,4,16\n".as_slice();
+    let scenario = read_some(rt.alloc(), text)?;
+    assert_eq!(rt; scenario.version(), 2);
+    let out = written(rt.alloc(), &scenario)?;
+    assert!(rt; is_same(out.held(), text));
+    // the plain ring isn't printed
+    let plain = read_some(rt.alloc(), b"crowd,2\nring,36\nsteps,0\n")?;
+    let short = written(rt.alloc(), &plain)?;
+    assert!(rt; is_same(short.held(), b"crowd,2\nsteps,0\n"));
     Ok(())
 }
