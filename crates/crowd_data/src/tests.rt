@@ -1,5 +1,5 @@
 // Scenarios that stand for themselves, and their first frames.
-use crate::{Agent, Body, Goal, Mark, Scenario, Segment, clear, first_frame};
+use crate::{Agent, Body, Goal, Mark, Scenario, Segment, clear, first_frame, valid};
 use fixed_vec::{List, V2};
 use std::test::Fail;
 
@@ -49,6 +49,40 @@ fn first_frame_has_the_agents_as_they_are(rt: HostRuntime) -> Result<(), Fail> {
     };
     assert_eq!(rt; frame.bodies.items(), [body].as_slice());
     Ok(())
+}
+
+const STANDING: Agent = Agent {
+    pos: V2 { x: 0, y: 0 },
+    vel: V2 { x: 0, y: 0 },
+    pref: V2 { x: 0, y: 0 },
+    radius: 500,
+    speed: 400,
+    range: 15000,
+    most: 10,
+    horizon: 10,
+    wall_horizon: 10,
+    weight: 1,
+};
+
+#[test]
+fn versions_have_their_rings_and_weights(rt: HostRuntime) {
+    // (version, ring, weight, valid)
+    let scenarios = [
+        (1, 36, 1, true),
+        (1, 36, 2, false),
+        (1, 60, 1, false),
+        (2, 36, 1, true),
+        (2, 60, 16, true),
+        (2, 60, 17, false),
+        (2, 60, 0, false),
+        (2, 48, 1, false),
+        (0, 36, 1, false),
+        (3, 36, 1, false),
+    ];
+    for (version, ring, weight, want) in scenarios {
+        let agents = [Agent { weight, ..STANDING }];
+        assert_eq!(rt; valid(version, ring, 0, &agents, &[], &[], &[]), want);
+    }
 }
 
 #[test]
