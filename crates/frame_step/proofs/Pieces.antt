@@ -1,5 +1,5 @@
 -- Bodies of the agents of pieces.
-use Rattle.std.proofs.Common.{◌≡◌, ◌≢◌, ℕ, suc, ◌+◌, ◌*◌, ◌/◌, ◌<◌, ◌≤◌, List, [], ◌∷◌, ◌++◌, length, get_or, slice_index_or, refl, subst, sym, arith, ⊎_elim, eq-zero-or-pos}
+use Rattle.std.proofs.Common.{◌≡◌, ℕ, suc, ◌+◌, ◌*◌, ◌/◌, ◌<◌, ◌≤◌, List, [], ◌∷◌, ◌++◌, length, get_or, slice_index_or, refl, subst, sym, arith, ⊎_elim, eq-zero-or-pos}
 use Rattle.std.specs.List.{All}
 use Rattle.std.proofs.lemmas.Bool.{cases_lt}
 use Rattle.std.proofs.lemmas.List.{get_or_append_left, get_or_default, get_or_push, length_push}
@@ -9,7 +9,7 @@ use Rattle.crowd_data.specs.declared.frame.Body.{Body}
 use Rattle.agent_step.specs.Frozen.{FrozenState}
 use Rattle.work_claim.specs.Counts.{IsEachOnce, occurrences}
 use Rattle.work_claim.proofs.Sums.{occurrences_append, occurrences_other}
-use Rattle.frame_step.specs.Moved.{AreAllMoved, CoversMoved, IsPieceMoved, KeepsMoved, MovesTo}
+use Rattle.frame_step.specs.Moved.{AreAllMoved, CoversMoved, IsPieceMoved, KeepsMoved}
 
 -- what is counted stands at some place
 place_of : (x : ℕ) (xs : List ℕ) → 0 < occurrences x xs → (k : ℕ) × (k < length xs) × (get_or xs k 0 ≡ x)

@@ -9,7 +9,7 @@ ghost use Rattle.work_claim.specs.declared.view.RoundView.{RoundView};
 ghost use Rattle.frame_step.specs.Moved.{AreAllMoved, MayStep, agents_per_piece};
 ghost use Rattle.frame_step.specs.Workers.{HasRoomFor, HasWorked, IsEquipped, IsTeam, lending_to};
 
-use crate::limits::PIECES_PER_WORKER;
+use crate::limits::AGENTS_PER_WORKER;
 use crate::moves::{move_alone, piece_count};
 use crate::putting::take_in;
 use crate::worker::{Worker, work};
@@ -105,12 +105,13 @@ fn take_all_in(into: &mut List<Body>, root: &mut Root, claims: &Claims, workers:
     }
 }
 
-// The workers of a crowd of so many pieces: as many as are asked for, but each with pieces enough to be worth its
+// The workers of a crowd of so many agents: as many as are asked for, but each with agents enough to be worth its
 // start; none where that leaves one.
-fn worker_count(workers: u32, pieces: u32) -> u32
+fn worker_count(workers: u32, agents: usize) -> u32
+    requires { agents ≤ 10000 }
     ensures { result ≤ workers }
 {
-    let count = workers.min(pieces / PIECES_PER_WORKER);
+    let count = workers.min((agents / AGENTS_PER_WORKER) as u32);
     if count < 2 { 0 } else { count }
 }
 
@@ -139,12 +140,13 @@ impl Team {
         requires { workers ≤ 64 }
         ensures { IfOk result (λ team. IsTeam scenario.now 0 team) }
     {
-        let pieces = piece_count(scenario.agents().len());
+        let agents = scenario.agents().len();
+        let pieces = piece_count(agents);
         let (claims, root) = Claims::open(alloc, pieces)?;
         Ok(Team {
             claims,
             root,
-            workers: open_workers(alloc, scenario, pieces, worker_count(workers, pieces))?,
+            workers: open_workers(alloc, scenario, pieces, worker_count(workers, agents))?,
             scratch: Scratch::open(alloc, scenario.segments().len())?,
         })
     }
