@@ -9,7 +9,7 @@ use Rattle.crowd_data.specs.declared.frame.Mark.{Mark}
 use Rattle.crowd_data.specs.declared.post.Post.{Post}
 use Rattle.crowd_data.specs.Advice.{IsAdvice}
 use Rattle.crowd_data.specs.Limits.{IsVelocity}
-use Rattle.crowd_data.specs.Run.{IsMoved, IsNext, Snapshot, after_posts, body_at, moved_body, no_body}
+use Rattle.crowd_data.specs.Run.{IsNext, Snapshot, after_posts, body_at, moved_body, no_body}
 use Rattle.crowd_data.specs.Scenario.{Parts}
 use Rattle.crowd_data.proofs.Posts.{length-after_posts}
 use Rattle.agent_step.specs.Frozen.{FrozenState, agents_in}

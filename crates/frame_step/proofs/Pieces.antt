@@ -1,5 +1,5 @@
 -- Bodies of the agents of pieces.
-use Rattle.std.proofs.Common.{◌≡◌, ◌≢◌, ℕ, suc, ◌+◌, ◌*◌, ◌/◌, ◌<◌, ◌≤◌, List, [], ◌∷◌, ◌++◌, length, get_or, slice_index_or, refl, subst, sym, arith, ⊎_elim, eq-zero-or-pos}
+use Rattle.std.proofs.Common.{◌≡◌, ℕ, suc, ◌+◌, ◌*◌, ◌/◌, ◌<◌, ◌≤◌, List, [], ◌∷◌, ◌++◌, length, get_or, slice_index_or, refl, subst, sym, arith, ⊎_elim, eq-zero-or-pos}
 use Rattle.std.specs.List.{All}
 use Rattle.std.proofs.lemmas.Bool.{cases_lt}
 use Rattle.std.proofs.lemmas.List.{get_or_append_left, get_or_default, get_or_push, length_push}
@@ -9,13 +9,13 @@ use Rattle.crowd_data.specs.declared.frame.Body.{Body}
 use Rattle.agent_step.specs.Frozen.{FrozenState}
 use Rattle.work_claim.specs.Counts.{IsEachOnce, occurrences}
 use Rattle.work_claim.proofs.Sums.{occurrences_append, occurrences_other}
-use Rattle.frame_step.specs.Moved.{AreAllMoved, CoversMoved, IsPieceMoved, KeepsMoved, MovesTo}
+use Rattle.frame_step.specs.Moved.{AreAllMoved, CoversMoved, IsPieceMoved, KeepsMoved}
 
 -- what is counted stands at some place
-place_of : (x : ℕ) (xs : List ℕ) → 0 < occurrences x xs → (k : ℕ) × (k < length xs) × (get_or xs k 0 ≡ x)
-place_of x [] some = absurd (omega arith)
-place_of x (y ∷ ys) some = dite (ℕ_discrete x y) (λ e. (0, omega arith, sym e))
-    (λ ne. let z = occurrences_other x y ne in let r = place_of x ys (omega arith) in (suc r.0, (let l = r.1 in omega arith), r.2))
+found_at : (x : ℕ) (xs : List ℕ) → 0 < occurrences x xs → (k : ℕ) × (k < length xs) × (get_or xs k 0 ≡ x)
+found_at x [] some = absurd (omega arith)
+found_at x (y ∷ ys) some = dite (ℕ_discrete x y) (λ e. (0, omega arith, sym e))
+    (λ ne. let z = occurrences_other x y ne in let r = found_at x ys (omega arith) in (suc r.0, (let l = r.1 in omega arith), r.2))
 
 module _ (state : FrozenState) where
   -- a piece stays moved
@@ -44,7 +44,7 @@ module _ (state : FrozenState) where
   -- where the pieces of a list are moved, their agents are
   pub pieces_cover : (pieces : List ℕ) (bodies : List Body) → All (IsPieceMoved state bodies) pieces → CoversMoved state pieces bodies
   pieces_cover pieces bodies all who h some =
-      let r = place_of (who / 32) pieces some in
+      let r = found_at (who / 32) pieces some in
       let p : IsPieceMoved state bodies (who / 32) = subst (IsPieceMoved state bodies) r.2 (all r.0 0 r.1) in
       p who (omega arith) (omega arith) h
 

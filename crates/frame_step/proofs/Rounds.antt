@@ -1,5 +1,5 @@
 -- The root's and the claimers' views in a step.
-use Rattle.std.proofs.Common.{◌≡◌, ◌∙◌, ℕ, ◌+◌, ◌-◌, List, [], ap, sym, refl, arith}
+use Rattle.std.proofs.Common.{◌≡◌, ℕ, ◌+◌, ◌-◌, List, [], ap, arith}
 use Rattle.atomic_table.specs.Seated.{TableId}
 use Rattle.crowd_data.specs.Scenario.{Parts}
 use Rattle.work_claim.specs.declared.view.RoundView.{RoundView}

@@ -1,5 +1,5 @@
 -- A whole step: posts are taken in, all agents' bodies move, and what comes of it is the next frame.
-use Rattle.std.proofs.Common.{◌≡◌, ◌∙◌, ◌<◌, ◌+◌, ℕ, List, [], length, sym, subst, arith}
+use Rattle.std.proofs.Common.{◌≡◌, ◌<◌, ◌+◌, List, [], length, sym, subst}
 use Rattle.std.specs.List.{All}
 use Rattle.crowd_data.specs.declared.frame.Body.{Body}
 use Rattle.crowd_data.specs.declared.post.Post.{Post}

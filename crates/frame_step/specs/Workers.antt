@@ -5,7 +5,7 @@ use Rattle.agent_step.specs.Frozen.{FrozenState, most_planes}
 use Rattle.crowd_data.specs.Scenario.{Parts}
 use Rattle.work_claim.specs.declared.view.RoundView.{RoundView}
 use Rattle.work_claim.specs.Names.{claimer_id, claimer_view, claims_id, root_id, root_view}
-use Rattle.work_claim.specs.Views.{IsAllBack, lent}
+use Rattle.work_claim.specs.Views.{IsAllBack, lent, most_claimers}
 use Rattle.frame_step.specs.Moved.{IsPieceMoved, agents_per_piece}
 use Rattle.frame_step.specs.declared.worker.Desk.{Desk}
 use Rattle.frame_step.specs.declared.worker.Worker.{Worker}
@@ -50,6 +50,6 @@ pub record IsTeam (scenario : Parts) (most : ℕ) (team : Team) : Type 0 where
   pub all_back : IsAllBack (root_view team.root)
   pub few_rounds : (root_view team.root).rounds ≤ most
   pub pieces : length scenario.agents ≤ (root_view team.root).pieces * agents_per_piece
-  pub few : length team.workers.items ≤ 64
+  pub few : length team.workers.items ≤ most_claimers
   pub room : All (HasRoomFor scenario (root_view team.root).pieces) team.workers.items
   pub planes : most_planes (length scenario.segments) ≤ team.scratch

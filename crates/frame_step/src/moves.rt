@@ -8,7 +8,7 @@ ghost use Rattle.frame_step.specs.Moved.{AreAllMoved, IsPieceMoved, KeepsMoved, 
 
 use crate::limits::{AGENTS_PER_PIECE, FIRST_WORKER};
 use agent_step::{Advice, FrozenCrowd, Scratch, advise};
-use crowd_data::{Body, Frame};
+use crowd_data::{Body, Frame, MOST_AGENTS};
 use fixed_vec::{List, plus};
 use outside_io::Gate;
 
@@ -56,7 +56,7 @@ pub(crate) fn move_piece(
 
 /// How many pieces so many agents make.
 pub(crate) fn piece_count(agents: usize) -> u32
-    requires { agents ≤ 10000 }
+    requires { agents ≤ MOST_AGENTS }
     ensures covers { agents ≤ result * agents_per_piece }
     ensures none_empty { result * agents_per_piece < agents + agents_per_piece }
 {
@@ -73,7 +73,7 @@ pub(crate) fn move_alone<G: Gate>(
 )
     requires step { MayStep crowd.now (snapshot_of frame.now) }
     requires bodies { length bodies.old.items ≡ length crowd.now.scenario.agents }
-    requires few { length bodies.old.items ≤ 10000 }
+    requires few { length bodies.old.items ≤ MOST_AGENTS }
     requires planes { most_planes (length crowd.now.scenario.segments) ≤ scratch.old }
     ensures moved { AreAllMoved crowd.now bodies.new.items }
     ensures planes { scratch.new ≡ scratch.old }

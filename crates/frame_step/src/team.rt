@@ -1,26 +1,26 @@
 // All workers of a step.
-ghost use Rattle.std.specs.Prelude.{◌≡◌, ◌<◌, ℕ, ◌+◌, ◌*◌, ◌^◌, ◌≤◌, [], All, IfOk, length};
+ghost use Rattle.std.specs.Prelude.{◌≡◌, ◌<◌, ℕ, ◌+◌, ◌*◌, ◌≤◌, [], All, IfOk, length};
 ghost use Rattle.agent_step.specs.Frozen.{FrozenState};
 ghost use Rattle.crowd_data.specs.Run.{snapshot_of};
 ghost use Rattle.crowd_data.specs.Scenario.{Parts};
 ghost use Rattle.work_claim.specs.Names.{claims_id, root_id, root_view};
-ghost use Rattle.work_claim.specs.Views.{IsAllBack, lending};
+ghost use Rattle.work_claim.specs.Views.{IsAllBack, all_parts, lending};
 ghost use Rattle.work_claim.specs.declared.view.RoundView.{RoundView};
 ghost use Rattle.frame_step.specs.Moved.{AreAllMoved, MayStep, agents_per_piece};
 ghost use Rattle.frame_step.specs.Workers.{HasRoomFor, HasWorked, IsEquipped, IsTeam, lending_to};
 
-use crate::limits::PIECES_PER_WORKER;
+use crate::limits::AGENTS_PER_WORKER;
 use crate::moves::{move_alone, piece_count};
 use crate::putting::take_in;
 use crate::worker::{Worker, work};
 use agent_step::{FrozenCrowd, Scratch};
-use crowd_data::{Body, Frame, Scenario};
+use crowd_data::{Body, Frame, MOST_AGENTS, Scenario};
 use fixed_vec::{List, NoMemory};
 use outside_io::Gate;
 use std::alloc::Global;
 use std::thread;
 use std::thread::Threads;
-use work_claim::{Claims, Root};
+use work_claim::{Claims, MOST_CLAIMERS, MOST_ROUNDS, Root};
 
 /// The workers of a run, with the counter that they draw pieces from, and room for half-planes where the calling
 /// thread works alone. There is no worker where a step isn't worth sharing.
@@ -35,7 +35,7 @@ pub(crate) struct Team {
 // Lends a worker a claimer.
 fn equip(root: &mut Root, claims: &Claims, worker: &mut Worker)
     requires claims { root_id root.old ≡ claims_id claims.now }
-    requires few { (root_view root.old).lent < 64 }
+    requires few { (root_view root.old).lent < MOST_CLAIMERS }
     ensures claims { root_id root.new ≡ root_id root.old }
     ensures view { root_view root.new ≡ lending (root_view root.old) }
     ensures equipped { (scenario : Parts) → HasRoomFor scenario (root_view root.old).pieces worker.old → IsEquipped (claims_id claims.now) (root_view root.old) scenario worker.new }
@@ -48,7 +48,7 @@ fn equip(root: &mut Root, claims: &Claims, worker: &mut Worker)
 fn equip_all(root: &mut Root, claims: &Claims, workers: &mut [Worker])
     requires claims { root_id root.old ≡ claims_id claims.now }
     requires none { (root_view root.old).lent ≡ 0 }
-    requires few { length workers.old ≤ 64 }
+    requires few { length workers.old ≤ MOST_CLAIMERS }
     ensures claims { root_id root.new ≡ root_id root.old }
     ensures view { root_view root.new ≡ lending_to (root_view root.old) (length workers.old) }
     ensures count { length workers.new ≡ length workers.old }
@@ -69,7 +69,7 @@ fn work_all<R: Threads + Sync, G: Gate + Sync>(
     frame: &Frame,
 )
     requires some { 0 < length workers.old }
-    requires few { length workers.old ≤ 64 }
+    requires few { length workers.old ≤ MOST_CLAIMERS }
     requires step { MayStep crowd.now (snapshot_of frame.now) }
     requires equipped { (round : RoundView) × All (IsEquipped (claims_id claims.now) round crowd.now.scenario) workers.old }
     ensures count { length workers.new ≡ length workers.old }
@@ -77,7 +77,7 @@ fn work_all<R: Threads + Sync, G: Gate + Sync>(
 {
     let count = workers.len();
     let each = |number: usize, worker: &mut Worker|
-        requires { (number < 64) × MayStep crowd.now (snapshot_of frame.now) × ((round : RoundView) × IsEquipped (claims_id claims.now) round crowd.now.scenario worker.now) }
+        requires { (number < MOST_CLAIMERS) × MayStep crowd.now (snapshot_of frame.now) × ((round : RoundView) × IsEquipped (claims_id claims.now) round crowd.now.scenario worker.now) }
         ensures { (round : RoundView) → IsEquipped (claims_id claims.entry.now) round crowd.entry.now.scenario worker.entry.now → HasWorked (claims_id claims.entry.now) round crowd.entry.now worker.exit.now }
     { work(gate, number, claims, worker, crowd, frame) };
     thread::for_each_mut(rt, workers, count, &each);
@@ -87,10 +87,10 @@ fn work_all<R: Threads + Sync, G: Gate + Sync>(
 fn take_all_in(into: &mut List<Body>, root: &mut Root, claims: &Claims, workers: &mut [Worker])
     requires claims { root_id root.old ≡ claims_id claims.now }
     requires some { 0 < length workers.old }
-    requires lent { (root_view root.old).parts + length workers.old ≡ 65 }
+    requires lent { (root_view root.old).parts + length workers.old ≡ all_parts }
     requires fresh { ((root_view root.old).ends ≡ 0) × ((root_view root.old).drawn ≡ []) }
     requires pieces { length into.old.items ≤ (root_view root.old).pieces * agents_per_piece }
-    requires few { length into.old.items ≤ 10000 }
+    requires few { length into.old.items ≤ MOST_AGENTS }
     requires worked { (round : RoundView) × (state : FrozenState) × (length into.old.items ≡ length state.scenario.agents) × All (HasWorked (claims_id claims.now) round state) workers.old }
     ensures claims { root_id root.new ≡ root_id root.old }
     ensures all_back { IsAllBack (root_view root.new) }
@@ -105,12 +105,13 @@ fn take_all_in(into: &mut List<Body>, root: &mut Root, claims: &Claims, workers:
     }
 }
 
-// The workers of a crowd of so many pieces: as many as are asked for, but each with pieces enough to be worth its
+// The workers of a crowd of so many agents: as many as are asked for, but each with agents enough to be worth its
 // start; none where that leaves one.
-fn worker_count(workers: u32, pieces: u32) -> u32
+fn worker_count(workers: u32, agents: usize) -> u32
+    requires { agents ≤ MOST_AGENTS }
     ensures { result ≤ workers }
 {
-    let count = workers.min(pieces / PIECES_PER_WORKER);
+    let count = workers.min((agents / AGENTS_PER_WORKER) as u32);
     if count < 2 { 0 } else { count }
 }
 
@@ -136,15 +137,16 @@ fn open_workers(
 impl Team {
     /// The workers for the steps of a scenario, at most as many as are asked for.
     pub fn open(alloc: Global, scenario: &Scenario, workers: u32) -> Result<Team, NoMemory>
-        requires { workers ≤ 64 }
+        requires { workers ≤ MOST_CLAIMERS }
         ensures { IfOk result (λ team. IsTeam scenario.now 0 team) }
     {
-        let pieces = piece_count(scenario.agents().len());
+        let agents = scenario.agents().len();
+        let pieces = piece_count(agents);
         let (claims, root) = Claims::open(alloc, pieces)?;
         Ok(Team {
             claims,
             root,
-            workers: open_workers(alloc, scenario, pieces, worker_count(workers, pieces))?,
+            workers: open_workers(alloc, scenario, pieces, worker_count(workers, agents))?,
             scratch: Scratch::open(alloc, scenario.segments().len())?,
         })
     }
@@ -158,11 +160,11 @@ impl Team {
         crowd: &FrozenCrowd,
         frame: &Frame,
     )
-        requires team { (most : ℕ) × (most < 2 ^ 31) × IsTeam crowd.now.scenario most self.old }
+        requires team { (most : ℕ) × (most < MOST_ROUNDS) × IsTeam crowd.now.scenario most self.old }
         requires some { 0 < length self.old.workers.items }
         requires step { MayStep crowd.now (snapshot_of frame.now) }
         requires bodies { length bodies.old.items ≡ length crowd.now.scenario.agents }
-        requires few { length bodies.old.items ≤ 10000 }
+        requires few { length bodies.old.items ≤ MOST_AGENTS }
         ensures team { (most : ℕ) → IsTeam crowd.now.scenario most self.old → IsTeam crowd.now.scenario (most + 1) self.new }
         ensures moved { AreAllMoved crowd.now bodies.new.items }
     {
@@ -189,10 +191,10 @@ impl Team {
         crowd: &FrozenCrowd,
         frame: &Frame,
     )
-        requires team { (most : ℕ) × (most < 2 ^ 31) × IsTeam crowd.now.scenario most self.old }
+        requires team { (most : ℕ) × (most < MOST_ROUNDS) × IsTeam crowd.now.scenario most self.old }
         requires step { MayStep crowd.now (snapshot_of frame.now) }
         requires bodies { length bodies.old.items ≡ length crowd.now.scenario.agents }
-        requires few { length bodies.old.items ≤ 10000 }
+        requires few { length bodies.old.items ≤ MOST_AGENTS }
         ensures team { (most : ℕ) → IsTeam crowd.now.scenario most self.old → IsTeam crowd.now.scenario (most + 1) self.new }
         ensures moved { AreAllMoved crowd.now bodies.new.items }
     {

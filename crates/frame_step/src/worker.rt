@@ -1,5 +1,5 @@
 // What one worker does in a step.
-ghost use Rattle.std.specs.Prelude.{◌≡◌, ◌<◌, ℕ, ◌+◌, ◌≤◌, [], All, IfOk, length};
+ghost use Rattle.std.specs.Prelude.{◌≡◌, ◌<◌, ◌+◌, [], All, IfOk};
 ghost use Rattle.crowd_data.specs.Run.{snapshot_of};
 ghost use Rattle.work_claim.specs.Names.{claimer_id, claimer_view, claims_id};
 ghost use Rattle.work_claim.specs.declared.view.RoundView.{RoundView};
@@ -13,7 +13,7 @@ use crowd_data::{Body, Frame, Scenario, first_frame};
 use fixed_vec::{List, NoMemory};
 use outside_io::Gate;
 use std::alloc::Global;
-use work_claim::{Claimer, Claims};
+use work_claim::{Claimer, Claims, MOST_CLAIMERS};
 
 /// What a worker works with: the numbers of the pieces that it drew in a step, bodies of all agents, of which it
 /// puts those of its pieces, and room for half-planes.
@@ -84,7 +84,7 @@ pub(crate) fn work<G: Gate>(
     crowd: &FrozenCrowd,
     frame: &Frame,
 )
-    requires number { number < 64 }
+    requires number { number < MOST_CLAIMERS }
     requires step { MayStep crowd.now (snapshot_of frame.now) }
     requires equipped { (round : RoundView) × IsEquipped (claims_id claims.now) round crowd.now.scenario worker.old }
     ensures { (round : RoundView) → IsEquipped (claims_id claims.now) round crowd.now.scenario worker.old → HasWorked (claims_id claims.now) round crowd.now worker.new }

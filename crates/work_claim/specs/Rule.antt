@@ -4,7 +4,7 @@ use mathlib.Core.Option.{some}
 use lib.ListN.{get_elem?}
 use Rattle.atomic_table.specs.Table.{State}
 use Rattle.work_claim.specs.Counts.{occurrences, total}
-use Rattle.work_claim.specs.Views.{all_parts}
+use Rattle.work_claim.specs.Views.{all_parts, most_claimers}
 use Rattle.work_claim.specs.declared.view.RoundView.{RoundView}
 
 -- the most draws of a round that find no more: two for each part
@@ -19,7 +19,7 @@ pub record Fits (size start begun count : ℕ) (v : RoundView) : Type 0 where
   pub few_own : v.own_ends ≤ 2
   pub claimer : v.is_root ≡ false → v.ends ≤ v.own_ends
   pub ended : 0 < v.ends → start + size ≤ count
-  pub root : v.is_root ≡ true → (v.rounds ≡ begun) × (v.lent ≤ 64) × (all_parts ≤ v.parts + v.lent) × (v.ends + most_ends ≤ 2 * (v.parts + v.lent) + v.own_ends)
+  pub root : v.is_root ≡ true → (v.rounds ≡ begun) × (v.lent ≤ most_claimers) × (all_parts ≤ v.parts + v.lent) × (v.ends + most_ends ≤ 2 * (v.parts + v.lent) + v.own_ends)
 
 -- the counter counts all draws. Each number of the round that it has passed stands in the view of one seat, once
 pub record IsKept (size : ℕ) {S : Type 0} (s : State S RoundView) : Type 0 where

@@ -3,6 +3,10 @@ use Rattle.std.specs.Prelude.{◌≡◌, ℕ, ◌+◌, ◌-◌, ◌<◌, true, f
 use Rattle.work_claim.specs.declared.view.RoundView.{RoundView}
 use Rattle.work_claim.specs.Counts.{IsEachOnce}
 
+-- the most claimers of a round
+abbrev pub most_claimers : ℕ
+most_claimers = 64
+
 -- the parts of all seats: one more than the most claimers
 abbrev pub all_parts : ℕ
 all_parts = 65

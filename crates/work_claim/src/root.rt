@@ -1,5 +1,5 @@
 // The root.
-ghost use Rattle.std.specs.Prelude.{◌≡◌, ◌+◌, ◌<◌, ◌≤◌, true, [], IsNone, MatchOption, ℕ};
+ghost use Rattle.std.specs.Prelude.{◌≡◌, ◌<◌, ◌≤◌, true, IsNone, MatchOption, ℕ};
 ghost use Rattle.work_claim.specs.Steps.{DrawsNumber, FindsNone};
 ghost use Rattle.work_claim.specs.Views.{IsWholeRound, IsAllBack, begun, lending, lent, with_claimer};
 

@@ -1,4 +1,4 @@
-use Rattle.std.proofs.Common.{◌≡◌, ◌∙◌, ◌<◌, ◌*◌, ⊎_elim, ℕ, ap, length, arith}
+use Rattle.std.proofs.Common.{◌∙◌, ◌*◌, ⊎_elim, ap, length, arith}
 use Rattle.std.proofs.lemmas.Bool.{cases_lt}
 use Rattle.frame_step.proofs.moves.move_alone.Goals as goal
 

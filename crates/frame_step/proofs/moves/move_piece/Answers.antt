@@ -1,4 +1,4 @@
-use Rattle.std.proofs.Common.{◌≡◌, ◌∙◌, ◌<◌, ◌+◌, ⊎_elim, ℕ, ap, length, length-set, slice_set, subst, sym, arith}
+use Rattle.std.proofs.Common.{◌≡◌, ◌∙◌, ◌<◌, ⊎_elim, ap, length, length-set, slice_set, subst, arith}
 use Rattle.std.proofs.lemmas.Bool.{cases_lt}
 use Rattle.crowd_data.specs.Run.{body_at, snapshot_of}
 use Rattle.frame_step.specs.Moved.{MovesTo}

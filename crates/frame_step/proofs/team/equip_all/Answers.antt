@@ -3,7 +3,7 @@ use Rattle.std.proofs.lemmas.Bool.{cases_lt}
 use Rattle.std.proofs.lemmas.List.{get_or_default, get_or-set_same, get_or-set_other}
 use Rattle.work_claim.specs.Names.{claims_id, root_view}
 use Rattle.work_claim.specs.Views.{lending}
-use Rattle.frame_step.specs.Workers.{HasRoomFor, IsEquipped, lending_to}
+use Rattle.frame_step.specs.Workers.{HasRoomFor, IsEquipped}
 use Rattle.frame_step.proofs.Rounds.{lending_to-more, same_round}
 use Rattle.frame_step.proofs.team.equip_all.Goals as goal
 

@@ -1,4 +1,4 @@
-use Rattle.std.proofs.Common.{◌≡◌, ◌+◌, ◌≤◌, length, vec_capacity}
+use Rattle.std.proofs.Common.{◌≡◌, ◌≤◌, length, vec_capacity}
 use Rattle.std.specs.List.{All}
 use Rattle.frame_step.specs.Workers.{HasRoomFor}
 use Rattle.frame_step.proofs.team.open_workers.Given as goal

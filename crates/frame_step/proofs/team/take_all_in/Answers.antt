@@ -1,11 +1,10 @@
 use Rattle.std.proofs.Common.{◌≡◌, ◌≢◌, ◌<◌, ◌∙◌, ℕ, List, ap, arith, length, length-set, slice_index_or, slice_set, subst, sym}
-use Rattle.std.specs.List.{All}
 use Rattle.std.proofs.lemmas.List.{get_or_default, get_or-set_same, get_or-set_other}
 use native.Mathlib.Decide.{ℕ_discrete}
 use mathlib.Core.Logic.{dite}
 use Rattle.work_claim.specs.Names.{claims_id, root_view}
 use Rattle.work_claim.specs.declared.view.RoundView.{RoundView}
-use Rattle.frame_step.specs.Moved.{CoversMoved, IsPieceMoved}
+use Rattle.frame_step.specs.Moved.{CoversMoved}
 use Rattle.frame_step.specs.Workers.{HasWorked}
 use Rattle.frame_step.specs.declared.worker.Worker.{Worker}
 use Rattle.frame_step.proofs.Pieces.{all_covered, covers_more}

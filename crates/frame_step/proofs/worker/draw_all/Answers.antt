@@ -1,4 +1,4 @@
-use Rattle.std.proofs.Common.{◌≡◌, ◌∙◌, ◌++◌, ◌∷◌, [], List, ℕ, ap, sym, arith, length}
+use Rattle.std.proofs.Common.{◌∙◌, ◌++◌, ◌∷◌, [], List, ℕ, ap, sym, arith, length}
 use Rattle.std.proofs.lemmas.List.{length_push}
 use Rattle.work_claim.specs.Names.{claimer_view}
 use Rattle.work_claim.specs.declared.view.RoundView.{RoundView}

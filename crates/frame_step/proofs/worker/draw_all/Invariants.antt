@@ -1,4 +1,4 @@
-use Rattle.std.proofs.Common.{◌≡◌, ℕ, ◌+◌, ◌-◌, length}
+use Rattle.std.proofs.Common.{◌≡◌, ◌-◌, length}
 use Rattle.std.specs.List.{All}
 use Rattle.work_claim.specs.Names.{claimer_id, claimer_view}
 use Rattle.frame_step.specs.Moved.{IsPieceMoved}

@@ -1,6 +1,5 @@
-use Rattle.std.proofs.Common.{◌≡◌, ◌∙◌, ◌+◌, ap, arith, length, sym, subst}
+use Rattle.std.proofs.Common.{◌∙◌, ◌+◌, ap, arith, length, sym, subst}
 use Rattle.crowd_data.specs.Run.{Snapshot, snapshot_of}
-use Rattle.crowd_data.specs.Scenario.{Parts}
 use Rattle.agent_kdtree.specs.Stands.{HasRoomFor}
 use Rattle.agent_step.specs.Frozen.{FrozenState}
 use Rattle.frame_step.specs.Workers.{IsTeam}
