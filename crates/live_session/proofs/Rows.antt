@@ -5,6 +5,11 @@ use mathlib.Core.Logic.{dite}
 use native.Mathlib.Decide.{ℕ_discrete}
 use Rattle.post_box.proofs.Histories.{at_seam}
 
+-- some item of a list that has one
+pub some_item : {A : Type 0} (xs : List A) (place : ℕ) → place < length xs → A
+some_item [] place h = absurd (omega arith)
+some_item (x ∷ xs) place h = x
+
 -- the item that comes next
 pub at_next : {A : Type 0} (all xs : List A) (y : A) (ys : List A) (d : A) → all ≡ xs ++ y ∷ ys → slice_index_or all (length xs) d ≡ y
 at_next all xs y ys d e = ap (λ l. slice_index_or l (length xs) d) e ∙ at_seam xs y ys d

@@ -17,6 +17,7 @@ use Rattle.published_frames.specs.declared.entry.Step.{Step}
 use Rattle.published_frames.specs.declared.reader.FrameReader.{FrameReader}
 use Rattle.published_frames.specs.declared.writer.FrameWriter.{FrameWriter}
 use Rattle.published_frames.specs.History.{StartsWith, last_of}
+use Rattle.published_frames.proofs.Accounts.{starts_trans}
 use Rattle.published_frames.specs.Names.{reader_seen, reader_source, writer_history, writer_source}
 use Rattle.controller_turns.specs.Controllers.{CanTurn, ControllerState, Ends, HasPostedTurns, IsSamePoster, Suits, after_preferences}
 use Rattle.controller_turns.specs.Turns.{Preference, TurnsTo, frames_of, goals_of, preferences_of, turn}
@@ -52,9 +53,6 @@ suits box scenario number controller poster valid c p =
     subst (λ (x : ControllerState × PosterState). Suits scenario x.0 x.1) (λ i. (sym c i, sym p i)) here
 
 -- ---- longer histories
-
-starts_trans : (c b a : List Step) → StartsWith c b → StartsWith b a → StartsWith c a
-starts_trans c b a x y = (y.0 ++ x.0, x.1 ∙ (ap (λ l. l ++ x.0) y.1 ∙ append_assoc a y.0 x.0))
 
 stands_longer : (scenario : Parts) (number : ℕ) (poster : PosterState) (reader : Option FrameReader) (history more : List Step) (last : Option ℕ) → StartsWith more history
     → Stands scenario number poster reader history last → Stands scenario number poster reader more last
@@ -149,22 +147,24 @@ module _ (box : BoxState) (writer : FrameWriter) (course : Course) (number turns
       let at : frame.number ≡ length history = ap (λ (f : Snapshot). f.number) e ∙ published.number in
       let shown : frame ≡ last_of (start_of scenario) history = e ∙ (published.frame ∙ ap (λ (p : Parts). last_of (start_of p) history) (sym published.scenario)) in
       let size = ap (λ (l : List Goal). length l) mine in
-      let more : (scenario.steps + 1 + (turns + 1)) * length goals ≡ (scenario.steps + 1 + turns) * length goals + length goals = omega arith in
-      (record {
-        controller = nc ∙ steered.controller;
-        poster = same_poster-trans (poster_of box scenario number) s.poster next.poster steered.poster posted.0;
-        reader = subst (λ (o : Option FrameReader). IfSome o (λ r. reader_source r ≡ writer_source writer)) (sym nr) steered.reader;
-        few = omega (arith, steered.few, posted.2, size, more);
-        stands = λ all seen longer.
-            let before = steered.stands all (subst (λ (o : Option FrameReader). IfSome o (λ r. StartsWith all (reader_seen r))) nr seen) longer in
-            let small : MatchOption s.last (Unit {0}) (λ n. n < length history) = subst (λ (m : ℕ). MatchOption s.last (Unit {0}) (λ n. n < m)) at newer in
-            let here : TurnsTo (turn goals) (frames_of scenario all) (preferences_of s.poster.posts ++ turn goals (last_of (start_of scenario) history)) (length history) =
-            turned_amid (turn goals) scenario all history (preferences_of s.poster.posts) s.last longer before small in
-            let list : preferences_of s.poster.posts ++ turn goals (last_of (start_of scenario) history) ≡ preferences_of next.poster.posts =
-            sym (posted.1 ∙ (λ i. preferences_of s.poster.posts ++ turn (mine i) (shown i))) in
-            subst (λ (last : Option ℕ). HasPostedTurns goals scenario all next.poster last) (sym nl)
-            (subst (λ (x : List Preference × ℕ). TurnsTo (turn goals) (frames_of scenario all) x.0 x.1) (λ i. (list i, sym at i)) here);
-      }, subst (λ (last : Option ℕ). IsLate history last) (sym nl) (omega (arith, at)))
+      let more : (scenario.steps + 1 + (turns + 1)) * length goals ≡ (scenario.steps + 1 + turns) * length goals + length goals = omega arith in (
+        record {
+          controller = nc ∙ steered.controller;
+          poster = same_poster-trans (poster_of box scenario number) s.poster next.poster steered.poster posted.0;
+          reader = subst (λ (o : Option FrameReader). IfSome o (λ r. reader_source r ≡ writer_source writer)) (sym nr) steered.reader;
+          few = omega (arith, steered.few, posted.2, size, more);
+          stands = λ all seen longer.
+              let before = steered.stands all (subst (λ (o : Option FrameReader). IfSome o (λ r. StartsWith all (reader_seen r))) nr seen) longer in
+              let small : MatchOption s.last (Unit {0}) (λ n. n < length history) = subst (λ (m : ℕ). MatchOption s.last (Unit {0}) (λ n. n < m)) at newer in
+              let here : TurnsTo (turn goals) (frames_of scenario all) (preferences_of s.poster.posts ++ turn goals (last_of (start_of scenario) history)) (length history) =
+              turned_amid (turn goals) scenario all history (preferences_of s.poster.posts) s.last longer before small in
+              let list : preferences_of s.poster.posts ++ turn goals (last_of (start_of scenario) history) ≡ preferences_of next.poster.posts =
+              sym (posted.1 ∙ (λ i. preferences_of s.poster.posts ++ turn (mine i) (shown i))) in
+              subst (λ (last : Option ℕ). HasPostedTurns goals scenario all next.poster last) (sym nl)
+              (subst (λ (x : List Preference × ℕ). TurnsTo (turn goals) (frames_of scenario all) x.0 x.1) (λ i. (list i, sym at i)) here);
+        },
+        subst (λ (last : Option ℕ). IsLate history last) (sym nl) (omega (arith, at)),
+      )
 
 -- ---- all posters
 

@@ -24,8 +24,8 @@ text_so_far-append scenario history step =
     let behind = frames_text (lists_of history) (map frame_of history) in
     let more = frame_text (frame_of step) step.posts in
     ap (λ t. scenario_text scenario ++ (head ++ t)) (frames_text-append history step)
-        ∙ (ap (λ t. scenario_text scenario ++ t) (sym (append_assoc head behind more))
-        ∙ sym (append_assoc (scenario_text scenario) (head ++ behind) more))
+    ∙ (ap (λ t. scenario_text scenario ++ t) (sym (append_assoc head behind more))
+    ∙ sym (append_assoc (scenario_text scenario) (head ++ behind) more))
 
 pub follows : (scenario : Parts) (frame : Snapshot) (history : List Step) → Continues scenario frame history → Follow scenario frame (lists_of history) (map frame_of history)
 follows scenario frame [] legal = tt

@@ -62,7 +62,7 @@ module _ (scenario : Parts) (history : List Step) (frame next : Snapshot) (posts
       (listed_more scenario 1 (frame.number + 1) (lists_of history) posts (omega (arith, length-map history (λ (step : Step). step.posts), by.number)) by.lists by.list)
 
 -- a prefix of the text of a history, with the next bytes
-part_of : (scenario : Parts) (history : List Step) (old new : SinkState) (fault : LiveFault) → IsHistory scenario history → AreLiveLists scenario 1 (lists_of history)
+pub part_of : (scenario : Parts) (history : List Step) (old new : SinkState) (fault : LiveFault) → IsHistory scenario history → AreLiveLists scenario 1 (lists_of history)
     → AppendsPrefix old.held new.held (text_so_far scenario history) → old.faults ≤ new.faults → (fault ≡ WriteFault → Rose old.faults new.faults) → WroteLivePart scenario old new fault
 part_of scenario history old new fault legal lists written later cause =
     let last = end_line (last_of (start_of scenario) history).number in

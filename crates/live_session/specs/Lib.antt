@@ -1,3 +1,4 @@
 pub mod LiveText
 pub mod Running
 pub mod Steering
+pub mod Session

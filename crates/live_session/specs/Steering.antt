@@ -9,7 +9,7 @@ use Rattle.published_frames.specs.declared.reader.FrameReader.{FrameReader}
 use Rattle.published_frames.specs.History.{StartsWith}
 use Rattle.published_frames.specs.Names.{reader_seen, reader_source}
 use Rattle.controller_turns.specs.Controllers.{ControllerState, HasPostedTurns, IsSamePoster}
-use Rattle.controller_turns.specs.Turns.{goals_of}
+use Rattle.controller_turns.specs.Turns.{IsReached, goals_of}
 use Rattle.live_session.specs.declared.steered.Steered.{Steered}
 use Rattle.live_session.specs.declared.steered.Steering.{Steering}
 use Rattle.live_session.specs.declared.steered.Steering.TheVariants.{OnThread, Here}
@@ -57,9 +57,9 @@ AreSteering box source history turns list = (number : ℕ) (other : Steering) �
 abbrev pub AreSteered : BoxState → Book × Parts → List Step → ℕ → List Steered → Type 0
 AreSteered box source history turns list = (number : ℕ) (other : Steered) → number < length list → IsSteered box source history turns number (slice_index_or list number other)
 
--- the last turn was on the present frame or a later one
+-- the last turn was on the last frame of this history or a later one
 abbrev pub IsLate : List Step → Option ℕ → Type 0
-IsLate history last = IfSome last (λ number. length history ≤ number)
+IsLate history last = IsReached last (length history)
 
 -- and each had its last turn so late
 abbrev pub AreLate : BoxState → Book × Parts → List Step → ℕ → List Steered → Type 0

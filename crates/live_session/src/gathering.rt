@@ -39,6 +39,7 @@ pub(crate) fn gather<R: Wait>(
     requires cursor { IsCursor stepper.now.scenario.posts (stepper.now.frame.number + 1) place }
     requires room { length stepper.now.scenario.posts + MOST_TAKEN ≤ length list.old.items + list.old.spare }
     requires taker { IsTakerOf posts.now taker.old }
+    ensures queue { taker.new.queue ≡ taker.old.queue }
     ensures moved { Transfers taker.old taker.new (script_of stepper.now.scenario (stepper.now.frame.number + 1)) list.new.items }
     ensures cursor { IsCursor stepper.now.scenario.posts (stepper.now.frame.number + 2) result }
     ensures room { length list.new.items + list.new.spare ≡ length list.old.items + list.old.spare }

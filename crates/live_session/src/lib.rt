@@ -3,12 +3,17 @@
 #![tactic(auto)]
 
 mod desk;
+mod ending;
 mod fault;
+mod frames;
 mod gathering;
 mod joining;
 mod own_turns;
+mod run;
+mod session;
 mod starting;
 mod steered;
 mod stepping;
 
 pub use fault::LiveFault;
+pub use run::{live, live_places};

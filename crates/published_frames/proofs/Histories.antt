@@ -117,7 +117,7 @@ prefs_of-last_of scenario frame history legal =
 
 -- ---- posts
 
-posts_of-append : (xs ys : List Step) → posts_of (xs ++ ys) ≡ posts_of xs ++ posts_of ys
+pub posts_of-append : (xs ys : List Step) → posts_of (xs ++ ys) ≡ posts_of xs ++ posts_of ys
 posts_of-append [] ys = refl
 posts_of-append (x ∷ xs) ys = ap (λ posts. x.posts ++ posts) (posts_of-append xs ys) ∙ sym (append_assoc x.posts (posts_of xs) (posts_of ys))
 

@@ -1,5 +1,5 @@
 mod Prefixes
 mod Adding
-mod Accounts
+pub mod Accounts
 pub mod Histories
 mod Keeping
