@@ -20,6 +20,7 @@ use Rattle.scenario_read.specs.Numbers.{number_of}
 use Rattle.scenario_read.specs.Fields.{is_kind}
 use Rattle.scenario_read.specs.Values.{and_then, count_in, number_in, vector_in, within}
 use Rattle.scenario_read.specs.Records.{Record}
+use Rattle.scenario_read.proofs.KnownParts.{equal_is}
 use Rattle.frame_text.specs.declared.limits.TheConstants.{GREATEST_SEQ}
 use Rattle.frame_text.specs.Shape.{FramesSoFar, PostedFrame, all_frames, body_of_row, closed, ends, frames_from, is_end, is_whole, last_frame, mark_of_word, none_begun, number_of_row, or_stop, post_of_row, with_body, with_frame, with_ok, with_post, with_record, with_some}
 use Rattle.frame_text.specs.Shaped.{AreBodies, AreFrames, IsPrintedBody, IsPrintedPost, IsPostedFrame, IsShaped}
@@ -118,9 +119,6 @@ record IsSoFar (s : Parts) (f : FramesSoFar) : Type 0 where
 bodies_more : (who : ℕ) (bs : List Body) (b : Body) → AreBodies who bs → b.agent ≡ who + length bs → IsPrintedBody b → AreBodies who (bs ++ b ∷ [])
 bodies_more who [] b each here fits = (omega arith, fits, tt)
 bodies_more who (x ∷ bs) b each here fits = (each.0, each.1, bodies_more (who + 1) bs b each.2 (omega arith) fits)
-
-equal_is : (a b : ℕ) → (a == b) ≡ true → a ≡ b
-equal_is a b h = grind (arith, nat_tests)
 
 some_is_there : (a : ℕ) → (a == 0) ≡ false → 0 < a
 some_is_there a h = grind (arith, nat_tests)

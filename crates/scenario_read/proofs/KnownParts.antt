@@ -17,7 +17,7 @@ either_of : (a b : Bool) → (a || b) ≡ true → (a ≡ true) ⊎ (b ≡ true)
 either_of true b e = inl refl
 either_of false b e = inr e
 
-equal_is : (a b : ℕ) → (a == b) ≡ true → a ≡ b
+pub equal_is : (a b : ℕ) → (a == b) ≡ true → a ≡ b
 equal_is a b e = grind (arith, nat_tests)
 
 ring_known : (points : ℕ) → is_ring points ≡ true → IsRing points

@@ -6,4 +6,4 @@ mod PostOrder
 mod GeneratedParts
 mod GeneratedSteps
 pub mod OneOutcome
-mod KnownParts
+pub mod KnownParts

@@ -2,7 +2,6 @@
 use Rattle.std.proofs.Common.{◌≡◌, ◌∙◌, ◌<◌, ◌≤◌, ◌^◌, ◌&&◌, ap, sym, subst, refl, ℕ, Bool, true, false, length, ◌∷◌, inl, inr, arith, Some, ℤ, pos, neg_ℤ, ◌≤ℤ◌, int_le, unsigned_abs, Ok}
 use Rattle.std.specs.Fmt.{decimal, signed_decimal}
 use Rattle.std.specs.Prelude.{◌==◌, codes}
-use Rattle.std.proofs.lemmas.Bool.Decides.{nat_tests}
 use Rattle.std.proofs.lemmas.Fmt.{decimal_digit}
 use Rattle.std.proofs.lemmas.Int.{ints}
 use Rattle.csv.specs.Records.{field_at}
@@ -24,11 +23,9 @@ use Rattle.scenario_read.specs.RingRecord.{ring_of}
 use Rattle.scenario_read.specs.SegmentRecord.{segment_of}
 use Rattle.scenario_read.specs.StepsRecord.{steps_of}
 use Rattle.scenario_read.specs.Values.{count_in, number_in, vector_in}
+use Rattle.scenario_read.proofs.KnownParts.{equal_is}
 use Rattle.text_law.proofs.Lines.{agent_row, goal_row, header_row, post_row, ring_row, segment_row, steps_row}
 use Rattle.text_law.proofs.Numerals.{decimal_read, signed_read}
-
-equal_is : (a b : ℕ) → (a == b) ≡ true → a ≡ b
-equal_is a b e = grind (arith, nat_tests)
 
 -- ---- a field
 
