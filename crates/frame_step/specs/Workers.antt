@@ -11,14 +11,14 @@ use Rattle.frame_step.specs.declared.worker.Desk.{Desk}
 use Rattle.frame_step.specs.declared.worker.Worker.{Worker}
 use Rattle.frame_step.specs.declared.team.Team.{Team}
 
--- a desk has room for the steps of a scenario whose agents make so many pieces
-pub record HasRoom (scenario : Parts) (pieces : ℕ) (desk : Desk) : Type 0 where
+-- a desk with room for the steps of a scenario whose agents make so many pieces
+pub record IsDeskFor (scenario : Parts) (pieces : ℕ) (desk : Desk) : Type 0 where
   pub numbers : pieces ≤ length desk.drawn.items + desk.drawn.spare
   pub count : length desk.bodies.items ≡ length scenario.agents
   pub planes : most_planes (length scenario.segments) ≤ desk.scratch
 
-abbrev pub HasRoomFor : Parts → ℕ → Worker → Type 0
-HasRoomFor scenario pieces worker = HasRoom scenario pieces worker.desk
+abbrev pub IsWorkerFor : Parts → ℕ → Worker → Type 0
+IsWorkerFor scenario pieces worker = IsDeskFor scenario pieces worker.desk
 
 -- a claimer's view once it drew these numbers, and found no more
 abbrev pub after_drawing : RoundView → List ℕ → RoundView
@@ -34,13 +34,13 @@ with_worker v numbers = record v { parts = v.parts + 1; ends = v.ends + 1; drawn
 
 -- a worker that has a claimer of the round, and hasn't drawn
 pub record IsEquipped (id : TableId) (round : RoundView) (scenario : Parts) (worker : Worker) : Type 0 where
-  pub room : HasRoom scenario round.pieces worker.desk
+  pub room : IsDeskFor scenario round.pieces worker.desk
   pub none : worker.desk.drawn.items ≡ []
   pub claimer : IsSomeAnd worker.claimer (λ c. (claimer_id c ≡ id) × (claimer_view c ≡ lent round))
 
 -- a worker that drew pieces until there were no more, and moved the bodies of their agents
 pub record HasWorked (id : TableId) (round : RoundView) (state : FrozenState) (worker : Worker) : Type 0 where
-  pub room : HasRoom state.scenario round.pieces worker.desk
+  pub room : IsDeskFor state.scenario round.pieces worker.desk
   pub moved : All (IsPieceMoved state worker.desk.bodies.items) worker.desk.drawn.items
   pub claimer : IsSomeAnd worker.claimer (λ c. (claimer_id c ≡ id) × (claimer_view c ≡ after_drawing (lent round) worker.desk.drawn.items))
 
@@ -51,5 +51,5 @@ pub record IsTeam (scenario : Parts) (most : ℕ) (team : Team) : Type 0 where
   pub few_rounds : (root_view team.root).rounds ≤ most
   pub pieces : length scenario.agents ≤ (root_view team.root).pieces * agents_per_piece
   pub few : length team.workers.items ≤ most_claimers
-  pub room : All (HasRoomFor scenario (root_view team.root).pieces) team.workers.items
+  pub room : All (IsWorkerFor scenario (root_view team.root).pieces) team.workers.items
   pub planes : most_planes (length scenario.segments) ≤ team.scratch

@@ -112,6 +112,9 @@ impl Stepper {
 
     /// The same step, with a gate that each worker passes before each of its pieces: worker j as `16 + j`, by
     /// the number of the piece. A piece is 32 agents by number, and the last one may have fewer.
+    ///
+    /// Workers share the step where there are two and each has 64 agents at least. Then each has a thread of its
+    /// own, one of them the caller's; where no thread can be made, they work one after another.
     pub fn step_gated<R: Threads + Sync, G: Gate + Sync>(
         &mut self,
         rt: &R,

@@ -7,7 +7,7 @@ ghost use Rattle.work_claim.specs.Names.{claims_id, root_id, root_view};
 ghost use Rattle.work_claim.specs.Views.{IsAllBack, all_parts, lending};
 ghost use Rattle.work_claim.specs.declared.view.RoundView.{RoundView};
 ghost use Rattle.frame_step.specs.Moved.{AreAllMoved, MayStep, agents_per_piece};
-ghost use Rattle.frame_step.specs.Workers.{HasRoomFor, HasWorked, IsEquipped, IsTeam, lending_to};
+ghost use Rattle.frame_step.specs.Workers.{IsWorkerFor, HasWorked, IsEquipped, IsTeam, lending_to};
 
 use crate::limits::AGENTS_PER_WORKER;
 use crate::moves::{move_alone, piece_count};
@@ -38,7 +38,7 @@ fn equip(root: &mut Root, claims: &Claims, worker: &mut Worker)
     requires few { (root_view root.old).lent < MOST_CLAIMERS }
     ensures claims { root_id root.new ≡ root_id root.old }
     ensures view { root_view root.new ≡ lending (root_view root.old) }
-    ensures equipped { (scenario : Parts) → HasRoomFor scenario (root_view root.old).pieces worker.old → IsEquipped (claims_id claims.now) (root_view root.old) scenario worker.new }
+    ensures equipped { (scenario : Parts) → IsWorkerFor scenario (root_view root.old).pieces worker.old → IsEquipped (claims_id claims.now) (root_view root.old) scenario worker.new }
 {
     worker.desk.drawn.clear();
     worker.claimer = Some(root.lend(claims));
@@ -52,7 +52,7 @@ fn equip_all(root: &mut Root, claims: &Claims, workers: &mut [Worker])
     ensures claims { root_id root.new ≡ root_id root.old }
     ensures view { root_view root.new ≡ lending_to (root_view root.old) (length workers.old) }
     ensures count { length workers.new ≡ length workers.old }
-    ensures equipped { (scenario : Parts) → All (HasRoomFor scenario (root_view root.old).pieces) workers.old → All (IsEquipped (claims_id claims.now) (root_view root.old) scenario) workers.new }
+    ensures equipped { (scenario : Parts) → All (IsWorkerFor scenario (root_view root.old).pieces) workers.old → All (IsEquipped (claims_id claims.now) (root_view root.old) scenario) workers.new }
 {
     for i in 0..workers.len() {
         equip(root, claims, &mut workers[i]);
@@ -97,7 +97,7 @@ fn take_all_in(into: &mut List<Body>, root: &mut Root, claims: &Claims, workers:
     ensures rounds { (root_view root.new).rounds ≡ (root_view root.old).rounds }
     ensures pieces { (root_view root.new).pieces ≡ (root_view root.old).pieces }
     ensures moved { (round : RoundView) → (state : FrozenState) → (length into.old.items ≡ length state.scenario.agents) → All (HasWorked (claims_id claims.now) round state) workers.old → AreAllMoved state into.new.items }
-    ensures room { (round : RoundView) → (state : FrozenState) → All (HasWorked (claims_id claims.now) round state) workers.old → All (HasRoomFor state.scenario round.pieces) workers.new }
+    ensures room { (round : RoundView) → (state : FrozenState) → All (HasWorked (claims_id claims.now) round state) workers.old → All (IsWorkerFor state.scenario round.pieces) workers.new }
     ensures count { length workers.new ≡ length workers.old }
 {
     for i in 0..workers.len() {
@@ -123,7 +123,7 @@ fn open_workers(
     count: u32,
 ) -> Result<Vec<Worker>, NoMemory>
     ensures count { IfOk result (λ workers. length workers.items ≡ count) }
-    ensures room { IfOk result (λ workers. All (HasRoomFor scenario.now pieces) workers.items) }
+    ensures room { IfOk result (λ workers. All (IsWorkerFor scenario.now pieces) workers.items) }
 {
     let Ok(mut workers) = Vec::with_capacity(alloc, count as usize) else {
         return Err(NoMemory);

@@ -4,7 +4,7 @@ ghost use Rattle.crowd_data.specs.Run.{snapshot_of};
 ghost use Rattle.work_claim.specs.Names.{claimer_id, claimer_view, claims_id};
 ghost use Rattle.work_claim.specs.declared.view.RoundView.{RoundView};
 ghost use Rattle.frame_step.specs.Moved.{IsPieceMoved, MayStep};
-ghost use Rattle.frame_step.specs.Workers.{HasRoom, HasRoomFor, HasWorked, IsEquipped, after_drawing};
+ghost use Rattle.frame_step.specs.Workers.{IsDeskFor, IsWorkerFor, HasWorked, IsEquipped, after_drawing};
 
 use crate::limits::FIRST_WORKER;
 use crate::moves::move_piece;
@@ -34,7 +34,7 @@ pub(crate) struct Worker {
 impl Worker {
     /// A worker for the steps of a scenario, whose agents make so many pieces.
     pub fn open(alloc: Global, scenario: &Scenario, pieces: u32) -> Result<Worker, NoMemory>
-        ensures { IfOk result (λ worker. HasRoomFor scenario.now pieces worker) }
+        ensures { IfOk result (λ worker. IsWorkerFor scenario.now pieces worker) }
     {
         let desk = Desk {
             drawn: List::with_room(alloc, pieces as usize)?,
@@ -61,12 +61,12 @@ fn draw_all<G: Gate>(
     requires claims { claimer_id claimer.old ≡ claims_id claims.now }
     requires fresh { ((claimer_view claimer.old).own_ends ≡ 0) × ((claimer_view claimer.old).drawn ≡ []) }
     requires none { desk.old.drawn.items ≡ [] }
-    requires room { HasRoom crowd.now.scenario (claimer_view claimer.old).pieces desk.old }
+    requires room { IsDeskFor crowd.now.scenario (claimer_view claimer.old).pieces desk.old }
     requires step { MayStep crowd.now (snapshot_of frame.now) }
     ensures claims { claimer_id claimer.new ≡ claimer_id claimer.old }
     ensures view { claimer_view claimer.new ≡ after_drawing (claimer_view claimer.old) desk.new.drawn.items }
     ensures moved { All (IsPieceMoved crowd.now desk.new.bodies.items) desk.new.drawn.items }
-    ensures room { HasRoom crowd.now.scenario (claimer_view claimer.old).pieces desk.new }
+    ensures room { IsDeskFor crowd.now.scenario (claimer_view claimer.old).pieces desk.new }
 {
     while let Some(piece) = claimer.next(claims) {
         gate.pass(who, u64::from(piece));

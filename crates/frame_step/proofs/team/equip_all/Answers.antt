@@ -3,7 +3,7 @@ use Rattle.std.proofs.lemmas.Bool.{cases_lt}
 use Rattle.std.proofs.lemmas.List.{get_or_default, get_or-set_same, get_or-set_other}
 use Rattle.work_claim.specs.Names.{claims_id, root_view}
 use Rattle.work_claim.specs.Views.{lending}
-use Rattle.frame_step.specs.Workers.{HasRoomFor, IsEquipped}
+use Rattle.frame_step.specs.Workers.{IsWorkerFor, IsEquipped}
 use Rattle.frame_step.proofs.Rounds.{lending_to-more, same_round}
 use Rattle.frame_step.proofs.team.equip_all.Goals as goal
 
@@ -26,8 +26,8 @@ loop-i-preserved c =
           let same : i ≡ k = omega arith in
           let inside : i < length workers = omega (arith, c.loop-i-test.true, so_far.count) in
           let was = so_far.rest i d (omega arith) in
-          let here = subst (HasRoomFor scenario first.pieces) (ap (λ n. slice_index_or c.args.workers.now n d) (sym same) ∙ sym was ∙ get_or_default workers i d c.index-workers-i.result inside) room in
-          let equipped = e.equipped scenario (subst (λ v. HasRoomFor scenario v.pieces (slice_index_or workers i c.index-workers-i.result)) (sym so_far.view) here) in
+          let here = subst (IsWorkerFor scenario first.pieces) (ap (λ n. slice_index_or c.args.workers.now n d) (sym same) ∙ sym was ∙ get_or_default workers i d c.index-workers-i.result inside) room in
+          let equipped = e.equipped scenario (subst (λ v. IsWorkerFor scenario v.pieces (slice_index_or workers i c.index-workers-i.result)) (sym so_far.view) here) in
           let mine = same_round (claims_id c.args.claims.now) first i scenario worker (subst (λ v. IsEquipped (claims_id c.args.claims.now) v scenario worker) so_far.view equipped) in
           subst (IsEquipped (claims_id c.args.claims.now) first scenario) (sym (ap (λ n. slice_index_or (slice_set workers i worker) n d) (sym same) ∙ get_or-set_same workers i worker d inside)) mine)
           (cases_lt k i);
