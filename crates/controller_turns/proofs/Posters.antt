@@ -123,7 +123,7 @@ posted_more old now new goals place none frame e h f =
     f ∙ (ap (λ p. after_preferences p more) e ∙ (sym (after_preferences-append old (turn (take place goals) frame) more) ∙ ap (after_preferences old) (sym (turn_more goals place none frame h))))
 
 -- what a poster has in the midst of a turn
-pub posted_amid : (old now : PosterState) (goals : List Goal) (place : ℕ) (frame : Snapshot) → now ≡ after_preferences old (turn (take place goals) frame) → place < length goals
+pub posted_amid : (old now : PosterState) (goals : List Goal) (place : ℕ) (frame : Snapshot) → now ≡ after_preferences old (turn (take place goals) frame) → place ≤ length goals
     → IsSamePoster old now × (length now.posts ≡ length old.posts + place) × HasPostedSome old (turn goals frame) now
 posted_amid old now goals place frame e h =
     let some = turn_posted old now (take place goals) frame e in

@@ -1,5 +1,5 @@
 -- A turn on the frame that was read.
-use Rattle.std.proofs.Common.{◌≡◌, ℕ, ◌+◌, ◌*◌, ◌<◌, ◌≤◌, Bool, true, false, true≢false, List, [], ◌++◌, length, ap, sym, ◌∙◌, subst, arith, mul-le-mul, Option, MatchBool, MatchOption}
+use Rattle.std.proofs.Common.{◌≡◌, ℕ, ◌+◌, ◌*◌, ◌≤◌, List, [], ◌++◌, length, ap, sym, ◌∙◌, subst, arith, mul-le-mul, Option}
 use Rattle.std.proofs.lemmas.List.{append-nil, length-map}
 use Rattle.crowd_data.specs.declared.post.Goal.{Goal}
 use Rattle.crowd_data.specs.Run.{Snapshot, start_of}

@@ -33,7 +33,7 @@ HasPostedSome before list after = (some : List Preference) × (rest : List Prefe
 abbrev pub IsSamePoster : PosterState → PosterState → Type 0
 IsSamePoster before after = after ≡ record before { posts = after.posts }
 
--- a frame on which these goals can be turned to: it has a body for each agent with a goal, in order of number, at
+-- a turn for these goals can be taken on the frame: it has a body for each agent with a goal, in order of number, at
 -- coordinates below 2^31 in size, and each goal is within its limits
 pub record CanTurn (goals : List Goal) (frame : Snapshot) : Type 0 where
   pub numbered : AreNumbered frame.bodies
@@ -48,8 +48,8 @@ HasPostedTurns goals scenario history poster last = HasTurned (turn goals) (fram
 abbrev pub posts_of_run : Parts → List Goal → ℕ
 posts_of_run scenario goals = (scenario.steps + 1) * length goals
 
--- a controller and its poster in a scenario: its goals are the scenario's, and the poster is of this number, for the
--- scenario's agents, and may post for a turn on every frame
+-- a controller and its poster suit a scenario: the goals are within its limits, and the poster is of the controller's
+-- number, for the scenario's agents, and may post as often as a turn on every frame does
 pub record Suits (scenario : Parts) (controller : ControllerState) (poster : PosterState) : Type 0 where
   pub limits : All (IsGoal (length scenario.agents)) controller.goals
   pub number : poster.controller ≡ controller.number

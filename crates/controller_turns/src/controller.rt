@@ -3,7 +3,7 @@ ghost use Rattle.std.specs.Prelude.{◌≡◌, ◌+◌, ◌≤◌, [], ◌∷◌
 ghost use Rattle.crowd_data.specs.Run.{snapshot_of};
 ghost use Rattle.post_box.specs.Ends.{IsPosterOf};
 ghost use Rattle.controller_turns.specs.Turns.{preference_for, turn};
-ghost use Rattle.controller_turns.specs.Controllers.{CanTurn, HasPostedSome, after_preferences};
+ghost use Rattle.controller_turns.specs.Controllers.{CanTurn, HasPostedSome, IsSamePoster, after_preferences};
 
 use crate::headings::heading;
 use crowd_data::{Frame, Goal};
@@ -70,6 +70,7 @@ impl Controller {
         requires agents { length frame.now.bodies.items ≤ poster.old.agents }
         requires room { length poster.old.posts + length self.old.goals ≤ poster.old.most }
         ensures same { self.new ≡ self.old }
+        ensures same_poster { IsSamePoster poster.old poster.new }
         ensures posted { OnOk result (poster.new ≡ after_preferences poster.old (turn self.old.goals (snapshot_of frame.now))) }
         ensures cut_short { OnErr result (HasPostedSome poster.old (turn self.old.goals (snapshot_of frame.now)) poster.new) }
     {

@@ -1,5 +1,6 @@
 // Where a controller steers an agent to.
 ghost use Rattle.std.specs.Prelude.{◌≡◌, ◌<◌, ◌≤◌, ◌^◌, pos, ◌*ℤ◌, int_le, unsigned_abs};
+ghost use Rattle.crowd_data.specs.declared.limits.TheConstants.{GREATEST_SPEED};
 ghost use Rattle.crowd_data.specs.Headings.{cut, heading as heading_of};
 ghost use Rattle.crowd_data.specs.Limits.{IsPosition, IsVelocity, IsWithin};
 ghost use Rattle.fixed_vec.specs.HalfPlane.{whole_length};
@@ -12,7 +13,7 @@ use fixed_vec::{V2, ceil_root, dot, minus};
 // Whether one step of the pace goes the whole way.
 fn is_reached(way: V2, pace: u32) -> bool
     requires way { IsBelow way (2 ^ 32) }
-    requires pace { pace ≤ 16384 }
+    requires pace { pace ≤ GREATEST_SPEED }
     ensures { result ≡ int_le (square way) (pos pace *ℤ pos pace) }
 {
     dot(way, way) <= i128::from(pace) * i128::from(pace)
@@ -28,7 +29,7 @@ fn length_of(way: V2) -> u64
 
 // A coordinate times the pace divided by the length, cut towards zero.
 fn scaled(coordinate: i64, pace: u32, length: u64) -> i64
-    requires pace { pace ≤ 16384 }
+    requires pace { pace ≤ GREATEST_SPEED }
     requires coordinate { unsigned_abs coordinate ≤ length }
     requires length { (0 < length) × (length < 2 ^ 62) }
     ensures exact { result ≡ cut (coordinate *ℤ pos pace) (pos length) }
@@ -43,7 +44,7 @@ fn scaled(coordinate: i64, pace: u32, length: u64) -> i64
 pub fn heading(pos: V2, goal: &Goal) -> V2
     requires pos { IsWithin pos farthest }
     requires at { IsPosition goal.now.at }
-    requires pace { goal.now.pace ≤ 16384 }
+    requires pace { goal.now.pace ≤ GREATEST_SPEED }
     ensures exact { result ≡ heading_of pos goal.now }
     ensures velocity { IsVelocity result }
 {

@@ -27,8 +27,8 @@ impl Promise<Turns> for TurnsPromise {
     ghost kept_by = { λ p r. Ends p.controller.value p.poster.value (reader_source p.reader.value) r };
 }
 
-/// Begins a controller's turns on a thread of their own. Where no thread can be made, the notice becomes idle and the turns
-/// end here, before the first one as far as the notice isn't renewed by another.
+/// Begins a controller's turns on a thread of their own. Where no thread can be made, the notice is marked idle, the work that
+/// is handed back is done here, and `Err` has what it gives back.
 pub fn begin<'s, E, J: Writes + Send + Sync, R: Threads + Wait + Sync, G: Gate + Sync>(
     scope: &'s Scope<'s, E>,
     rt: &'s R,

@@ -12,6 +12,7 @@ pub trait Writes {
     ghost book: { Book };
 }
 
+// A call that is made with `Brand` says by a ghost item which writer it is.
 impl Writes for Brand {
     ghost book = { record { number = 0; log_name = 0; cells_name = 0 } };
 }

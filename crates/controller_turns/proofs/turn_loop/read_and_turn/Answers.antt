@@ -2,7 +2,7 @@ use Rattle.std.proofs.Common.{◌∙◌, ap, arith}
 use Rattle.std.proofs.lemmas.Bool.{MatchBool-at_true}
 use Rattle.crowd_data.specs.Run.{Snapshot, snapshot_of}
 use Rattle.published_frames.specs.Names.{guard_seen, guard_source, reader_seen, reader_source}
-use Rattle.controller_turns.proofs.Posters.{some_posted, turn_posted}
+use Rattle.controller_turns.proofs.Posters.{turn_posted}
 use Rattle.controller_turns.proofs.Rounds.{room_to_turn, turn_read, turned_read}
 use Rattle.controller_turns.proofs.turn_loop.read_and_turn.Goals as goal
 
@@ -18,9 +18,6 @@ turn-requires-clause-room g c =
     let room = room_to_turn c.args.controller.now.goals (reader_source c.args.reader).1 (guard_source c.read-guard.result).1 (reader_seen c.args.reader) (guard_seen c.read-guard.result) c.args.poster.now c.args.last c.frame.result.now.number
     (ap (λ s. s.1) read.source) read.later_than_read read.legal.steps number c.requires.turned (MatchBool-at_true _ _ c.if-not-is_newer.false c.is_newer.ensures) in
     omega (arith, room, c.requires.suits.room)
-
-pub returns-in-Ok-clause-poster : goal.returns-in-Ok-clause-poster
-returns-in-Ok-clause-poster g c = (turn_posted c.args.poster.now c.turn.new.poster c.args.controller.now.goals (snapshot_of c.frame-2.result.now) c.in-Ok.ensures.posted).0
 
 pub returns-in-Ok-clause-few : goal.returns-in-Ok-clause-few
 returns-in-Ok-clause-few g c =
@@ -39,6 +36,3 @@ returns-in-Ok-clause-turned g c =
     turn_read c.args.controller.now.goals (reader_source c.args.reader).1 (guard_source c.read-guard.result).1 (reader_seen c.args.reader) (guard_seen c.read-guard.result) (reader_seen c.leave-in-Ok.result)
     c.args.poster.now c.turn.new.poster (snapshot_of c.frame-2.result.now) c.args.last c.frame.result.now.number
     (ap (λ s. s.1) read.source) read.later_than_read c.leave-in-Ok.ensures.seen (c.frame-2.ensures ∙ read.frame) number c.requires.turned (MatchBool-at_true _ _ c.if-not-is_newer.false c.is_newer.ensures) posted.1
-
-pub returns-in-Err-clause-poster : goal.returns-in-Err-clause-poster
-returns-in-Err-clause-poster g c = some_posted c.args.poster.now c.turn.new.poster _ c.in-Err.ensures.cut_short
