@@ -1,5 +1,5 @@
 -- The lists of posts of a live run.
-use Rattle.std.proofs.Common.{◌≡◌, ◌∙◌, ◌+◌, ◌^◌, ◌<◌, ◌≤◌, ℕ, Bool, true, false, cond, eqb, List, [], ◌∷◌, ◌++◌, length, arith, refl, ap, sym, subst}
+use Rattle.std.proofs.Common.{◌≡◌, ◌+◌, ◌^◌, ◌≤◌, ℕ, Bool, true, false, cond, eqb, List, [], ◌∷◌, ◌++◌, length, arith, sym, subst}
 use Rattle.std.specs.List.{All}
 use Rattle.std.proofs.lemmas.List.Elements.{All-append}
 use Rattle.fixed_vec.specs.Vector.{IsBelow}
@@ -7,9 +7,8 @@ use Rattle.crowd_data.specs.declared.post.Post.{Post}
 use Rattle.crowd_data.specs.declared.post.ScriptPost.{ScriptPost}
 use Rattle.crowd_data.specs.Limits.{IsPost}
 use Rattle.crowd_data.specs.Run.{script_of, scripted_from}
-use Rattle.crowd_data.specs.Scenario.{IsValid, Parts, controllers_of}
+use Rattle.crowd_data.specs.Scenario.{IsValid, Parts}
 use Rattle.crowd_data.proofs.ScriptedPosts.{scripted_sound}
-use Rattle.post_box.specs.History.{IsBoxPost}
 use Rattle.live_session.specs.LiveText.{AreLiveLists, IsLiveList}
 
 -- a frame has at most as many scripted posts as there are

@@ -33,7 +33,7 @@ use Rattle.live_session.specs.declared.steered.Steered.{Steered}
 use Rattle.live_session.specs.LiveText.{AreLiveLists, IsLiveList, IsLiveText, SinkState, TurnsToTheEnd, WroteLive, WroteLivePart, joined}
 use Rattle.live_session.specs.Running.{IsRunning, IsTaking, lists_of, step_to, text_so_far}
 use Rattle.live_session.specs.Session.{IsClosing}
-use Rattle.live_session.specs.Steering.{AreLate, IsLate, IsSteered, Stands, poster_of}
+use Rattle.live_session.specs.Steering.{AreLate, IsLate, IsSteered, Stands}
 use Rattle.live_session.proofs.Rows.{some_item}
 use Rattle.live_session.proofs.Standing.{controllers_few}
 use Rattle.live_session.proofs.Taken.{joined-lists_of, taken_more}
@@ -112,23 +112,23 @@ pub record IsLast (box : BoxState) (writer after : FrameWriter) (course next : C
 
 module _ (begin before start now : SinkState) (box : BoxState) (writer after : FrameWriter) (course next : Course) (room : Held Post) (place : ℕ) (taker : TakerState) (list : List Steered) (left posts : List Post)
     (closing : IsClosing begin before box writer course room place taker list) (running : IsRunning start now after next) (is : IsLast box writer after course next taker list left posts) where
-  abbrev scenario : Parts
-  scenario = course.scenario
+  abbrev parts : Parts
+  parts = course.scenario
 
   abbrev all : List Step
   all = writer_history after
 
-  legal : IsHistory scenario all
+  legal : IsHistory parts all
   legal = subst (λ (p : Parts). IsHistory p all) is.scenario running.published.legal
 
-  lists : AreLiveLists scenario 1 (lists_of all)
+  lists : AreLiveLists parts 1 (lists_of all)
   lists = subst (λ (p : Parts). AreLiveLists p 1 (lists_of all)) is.scenario running.posts
 
-  full : length all ≡ scenario.steps
+  full : length all ≡ parts.steps
   full = omega (arith, running.published.number, is.number, closing.last)
 
   -- the posts of a controller are what it posted
-  module _ (number : ℕ) (below : number < controllers_of scenario.goals) where
+  module _ (number : ℕ) (below : number < controllers_of parts.goals) where
     inside : number < length list
     inside = omega (arith, closing.count)
 
@@ -140,9 +140,9 @@ module _ (begin before start now : SinkState) (box : BoxState) (writer after : F
 
     in_lists : posts_by number (joined (lists_of all)) ≡ posts_by number (taker.posts ++ left)
     in_lists =
-        let few = controllers_few (length scenario.agents) scenario.goals is.valid.goals in
+        let few = controllers_few (length parts.agents) parts.goals is.valid.goals in
         ap (posts_by number) (joined-lists_of all) ∙ (ap (λ h. posts_by number (posts_of h)) is.history
-        ∙ taken_more number (omega (arith, few)) scenario (writer_history writer) next.frame (course.frame.number + 1) posts left taker.posts (closing.under_way.taking.taken number below) is.listed)
+        ∙ taken_more number (omega (arith, few)) parts (writer_history writer) next.frame (course.frame.number + 1) posts left taker.posts (closing.under_way.taking.taken number below) is.listed)
 
     pub in_order : AreConsecutive (posts_by number (joined (lists_of all)))
     in_order = subst AreConsecutive (sym in_lists) (is.consecutive number)
@@ -156,31 +156,31 @@ module _ (begin before start now : SinkState) (box : BoxState) (writer after : F
         let own : mine.poster.controller ≡ number = ap (λ (p : PosterState). p.controller) known.0.poster in
         subst (λ (n : ℕ). posts_by n (taker.posts ++ left) ≡ mine.poster.posts) own one
 
-    pub turns : TurnsToTheEnd scenario number (frames_of scenario all) (preferences_of (posts_by number (joined (lists_of all))))
+    pub turns : TurnsToTheEnd parts number (frames_of parts all) (preferences_of (posts_by number (joined (lists_of all))))
     turns =
         let x = some_item list number inside in
         let at = reader_at box (writer_source writer) (writer_history writer) (course.frame.number + 1) list closing.late number x x.reader inside in
         let shown : IfSome mine.reader (λ r. StartsWith all (reader_seen r)) = subst (λ (o : Option FrameReader). IfSome o (λ r. StartsWith all (reader_seen r))) at (is.seen number x.reader (omega (arith, inside, length-map list (λ (s : Steered). s.reader)))) in
-        let stands : Stands scenario number mine.poster mine.reader (writer_history writer) mine.last = subst (λ (p : Parts). Stands p number mine.poster mine.reader (writer_history writer) mine.last) closing.under_way.running.published.scenario known.0.stands in
-        late_turns scenario number mine.poster mine.reader (writer_history writer) all mine.last (posts_by number (joined (lists_of all))) stands known.1 (step_to next.frame posts ∷ [], is.history) shown full
+        let stands : Stands parts number mine.poster mine.reader (writer_history writer) mine.last = subst (λ (p : Parts). Stands p number mine.poster mine.reader (writer_history writer) mine.last) closing.under_way.running.published.scenario known.0.stands in
+        late_turns parts number mine.poster mine.reader (writer_history writer) all mine.last (posts_by number (joined (lists_of all))) stands known.1 (step_to next.frame posts ∷ [], is.history) shown full
         (omega (arith, closing.last, closing.under_way.running.published.number)) (in_lists ∙ posted)
 
-  last_number : (last_of (start_of scenario) all).number ≡ next.frame.number
+  last_number : (last_of (start_of parts) all).number ≡ next.frame.number
   last_number = ap (λ (f : Snapshot). f.number) (ap (λ (p : Parts). last_of (start_of p) all) (sym is.scenario) ∙ sym running.published.frame)
 
-  live_text : IsLiveText scenario (text_so_far scenario all ++ end_line next.frame.number)
+  live_text : IsLiveText parts (text_so_far parts all ++ end_line next.frame.number)
   live_text = record {
     lists = lists_of all;
-    frames = frames_of scenario all;
-    run = (refl, follows scenario (start_of scenario) all legal.legal);
-    transcript = whole_text scenario all next.frame.number last_number;
+    frames = frames_of parts all;
+    run = (refl, follows parts (start_of parts) all legal.legal);
+    transcript = whole_text parts all next.frame.number last_number;
     count = length-map all (λ (step : Step). step.posts) ∙ full;
     posts = lists;
     in_order = in_order;
     turns = λ number below some. turns number below;
   }
 
-  written : Appends start.held now.held (text_so_far scenario all)
+  written : Appends start.held now.held (text_so_far parts all)
   written = subst (λ (p : Parts). Appends start.held now.held (text_so_far p all)) is.scenario running.written
 
   -- the end line was written too
@@ -188,9 +188,9 @@ module _ (begin before start now : SinkState) (box : BoxState) (writer after : F
   lived end wrote later =
       subst (λ (p : Parts). WroteLive p start end) (sym is.scenario)
       (record {
-        text = text_so_far scenario all ++ end_line next.frame.number;
+        text = text_so_far parts all ++ end_line next.frame.number;
         live = live_text;
-        written = Appends-trans start.held now.held end.held (text_so_far scenario all) (end_line next.frame.number) written wrote;
+        written = Appends-trans start.held now.held end.held (text_so_far parts all) (end_line next.frame.number) written wrote;
         later = omega (arith, running.later, later);
       })
 

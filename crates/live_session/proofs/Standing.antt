@@ -1,5 +1,5 @@
 -- What is known of a controller as the run goes on.
-use Rattle.std.proofs.Common.{◌≡◌, ◌∙◌, ◌+◌, ◌*◌, ◌<◌, ◌≤◌, ℕ, List, [], ◌∷◌, ◌++◌, length, slice_index_or, refl, ap, sym, subst, arith, append_assoc, mul-le-mul, Option, Some, None, Result, Ok, MatchOption, Bool, true, false, true≢false, MatchBool}
+use Rattle.std.proofs.Common.{◌≡◌, ◌∙◌, ◌+◌, ◌*◌, ◌<◌, ◌≤◌, ℕ, List, [], ◌∷◌, ◌++◌, length, slice_index_or, refl, ap, sym, subst, arith, mul-le-mul, Option, Some, None, Result, Ok, MatchOption, Bool, true, false, true≢false, MatchBool}
 use Rattle.std.specs.Prelude.{IfOk, IfSome}
 use Rattle.std.specs.List.{All}
 use Rattle.std.proofs.lemmas.List.Elements.{All-head, All-tail}

@@ -1,11 +1,11 @@
 -- What was taken of the posts of controllers.
-use Rattle.std.proofs.Common.{◌≡◌, ◌≢◌, ◌∙◌, ◌+◌, ◌<◌, ◌≤◌, ℕ, Bool, true, false, cond, eqb, List, [], ◌∷◌, ◌++◌, length, map, refl, ap, sym, subst, arith, append-nil}
+use Rattle.std.proofs.Common.{◌≡◌, ◌∙◌, ◌+◌, ◌<◌, ◌≤◌, ℕ, Bool, true, false, cond, eqb, List, [], ◌∷◌, ◌++◌, refl, ap, sym, subst, arith, append-nil}
 use Rattle.std.specs.List.{All}
 use Rattle.crowd_data.specs.declared.post.Post.{Post}
 use Rattle.crowd_data.specs.declared.post.ScriptPost.{ScriptPost}
 use Rattle.crowd_data.specs.Run.{Snapshot, script_of, scripted_from}
 use Rattle.crowd_data.specs.Scenario.{Parts, controllers_of}
-use Rattle.post_box.specs.Ends.{BoxState, IsTakerOf, TakerState, Transfers, after_taking}
+use Rattle.post_box.specs.Ends.{BoxState, TakerState, Transfers, after_taking}
 use Rattle.post_box.specs.History.{IsBoxPost, posts_by}
 use Rattle.post_box.proofs.Histories.{posts_by-append, posts_by-other}
 use Rattle.published_frames.specs.declared.entry.Step.{Step}

@@ -1,13 +1,11 @@
 -- The text of a history.
-use Rattle.std.proofs.Common.{◌≡◌, ◌∙◌, ◌+◌, ◌≤◌, ℕ, List, [], ◌∷◌, ◌++◌, length, map, arith, refl, ap, sym, subst, append_assoc, append-nil}
-use Rattle.std.proofs.lemmas.List.{map-append}
-use Rattle.crowd_data.specs.declared.post.Post.{Post}
+use Rattle.std.proofs.Common.{◌≡◌, ◌∙◌, ℕ, List, [], ◌∷◌, ◌++◌, map, refl, ap, sym, append_assoc, append-nil}
 use Rattle.crowd_data.specs.Run.{Follow, Snapshot, start_of}
 use Rattle.crowd_data.specs.Scenario.{Parts}
 use Rattle.frame_text.specs.Lines.{end_line}
 use Rattle.frame_text.specs.Transcript.{IsTranscript, frame_text, frames_text, last_number, scenario_text, transcript_text}
 use Rattle.published_frames.specs.declared.entry.Step.{Step}
-use Rattle.published_frames.specs.History.{Continues, IsHistory, frame_of, last_of}
+use Rattle.published_frames.specs.History.{Continues, frame_of, last_of}
 use Rattle.controller_turns.specs.Turns.{frames_of}
 use Rattle.live_session.specs.Running.{lists_of, text_so_far}
 

@@ -1,10 +1,9 @@
 -- What was written when a live run went on, and when it ended early.
-use Rattle.std.proofs.Common.{◌≡◌, ◌∙◌, ◌+◌, ◌-◌, ◌^◌, ◌<◌, ◌≤◌, ℕ, min, List, [], ◌∷◌, ◌++◌, length, map, arith, refl, ap, sym, subst, append_assoc, length-append}
+use Rattle.std.proofs.Common.{◌≡◌, ◌∙◌, ◌+◌, ◌≤◌, ℕ, List, [], ◌∷◌, ◌++◌, length, arith, ap, sym, subst, length-append}
 use Rattle.std.proofs.lemmas.List.{map-append, length-map}
-use Rattle.std.specs.declared.option.Option.{Option}
 use Rattle.std.specs.Io.KnownBytes.{Appends}
 use Rattle.std.proofs.KnownBytes.{Appends-trans}
-use Rattle.outside_io.specs.Causes.{AppendsPrefix, Rose, next_count}
+use Rattle.outside_io.specs.Causes.{AppendsPrefix, Rose}
 use Rattle.outside_io.proofs.WroteLemmas.{prefix_longer, prefix_then, prefix_whole}
 use Rattle.crowd_data.specs.declared.post.Post.{Post}
 use Rattle.crowd_data.specs.Present.{IsPresent}
@@ -12,14 +11,14 @@ use Rattle.crowd_data.specs.Run.{IsNext, Snapshot, start_of}
 use Rattle.crowd_data.specs.Scenario.{IsValid, Parts}
 use Rattle.frame_step.specs.Present.{Course}
 use Rattle.frame_text.specs.Lines.{end_line}
-use Rattle.frame_text.specs.Transcript.{frame_text, scenario_text}
+use Rattle.frame_text.specs.Transcript.{frame_text}
 use Rattle.published_frames.specs.declared.entry.Step.{Step}
 use Rattle.published_frames.specs.declared.writer.FrameWriter.{FrameWriter}
-use Rattle.published_frames.specs.History.{AreInRange, Continues, IsHistory, frame_of, last_of}
+use Rattle.published_frames.specs.History.{AreInRange, IsHistory, last_of}
 use Rattle.published_frames.specs.Names.{writer_history, writer_source}
 use Rattle.published_frames.proofs.Histories.{continues_more, last_of-append}
-use Rattle.live_session.specs.LiveText.{AreLiveLists, IsLiveList, IsLiveTextSoFar, SinkState, WroteLivePart}
-use Rattle.live_session.specs.Running.{IsPublished, IsRunning, lists_of, step_to, text_so_far}
+use Rattle.live_session.specs.LiveText.{AreLiveLists, IsLiveList, SinkState, WroteLivePart}
+use Rattle.live_session.specs.Running.{IsRunning, lists_of, step_to, text_so_far}
 use Rattle.live_session.specs.declared.fault.LiveFault.{LiveFault}
 use Rattle.live_session.specs.declared.fault.LiveFault.TheVariants.{WriteFault, NoMemory}
 use Rattle.live_session.proofs.Listed.{listed_more}

@@ -10,7 +10,7 @@ use Rattle.post_box.specs.Ends.{BoxState, IsTakerOf, TakerState}
 use Rattle.post_box.specs.History.{posts_by}
 use Rattle.published_frames.specs.declared.entry.Step.{Step}
 use Rattle.published_frames.specs.declared.writer.FrameWriter.{FrameWriter}
-use Rattle.published_frames.specs.History.{IsHistory, frame_of, last_of}
+use Rattle.published_frames.specs.History.{IsHistory, last_of}
 use Rattle.published_frames.specs.Names.{writer_history, writer_source}
 use Rattle.published_frames.specs.Taken.{posts_of}
 use Rattle.controller_turns.specs.Turns.{frames_of}

@@ -1,5 +1,5 @@
 -- What holds between two steps, and once all turns have ended.
-use Rattle.std.specs.Prelude.{◌≡◌, ℕ, ◌+◌, ◌<◌, ◌≤◌, List, [], length, All}
+use Rattle.std.specs.Prelude.{◌≡◌, ℕ, ◌+◌, ◌≤◌, List, [], length, All}
 use Rattle.logbook.specs.Pages.{Book}
 use Rattle.fixed_vec.specs.Held.{Held}
 use Rattle.crowd_data.specs.declared.post.Post.{Post}

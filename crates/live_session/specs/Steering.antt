@@ -1,5 +1,5 @@
 -- Where controllers are steered from, and what is known of their turns.
-use Rattle.std.specs.Prelude.{◌≡◌, ℕ, ◌+◌, ◌*◌, ◌<◌, ◌≤◌, List, length, map, slice_index_or, Option, Some, IfSome}
+use Rattle.std.specs.Prelude.{◌≡◌, ℕ, ◌+◌, ◌*◌, ◌<◌, ◌≤◌, List, length, map, slice_index_or, Option, IfSome}
 use Rattle.std.specs.List.{range_with_len}
 use Rattle.logbook.specs.Pages.{Book}
 use Rattle.crowd_data.specs.Scenario.{Parts, controllers_of}

@@ -17,3 +17,6 @@ mod stepping;
 
 pub use fault::LiveFault;
 pub use run::{live, live_places};
+
+#[cfg(test)]
+mod tests;

@@ -1,11 +1,10 @@
-use Rattle.std.proofs.Common.{◌≡◌, ◌∙◌, ◌+◌, ◌++◌, ◌≤◌, ap, arith, length, subst, sym, List, Option}
+use Rattle.std.proofs.Common.{◌≡◌, ◌∙◌, ◌+◌, ◌++◌, ap, arith, length, subst, sym, List, Option}
 use Rattle.std.specs.Prelude.{IfSome}
 use Rattle.std.specs.List.{All}
 use Rattle.std.proofs.lemmas.List.{length-map}
 use Rattle.outside_io.specs.Causes.{AppendsPrefix}
 use Rattle.std.specs.Io.KnownBytes.{Appends}
-use Rattle.crowd_data.specs.declared.post.Post.{Post}
-use Rattle.crowd_data.specs.Run.{Snapshot, script_of}
+use Rattle.crowd_data.specs.Run.{Snapshot}
 use Rattle.frame_text.specs.Lines.{end_line}
 use Rattle.post_box.specs.Ends.{AreOnceInOrder, IsPosterOf, PosterState}
 use Rattle.published_frames.specs.declared.reader.FrameReader.{FrameReader}

@@ -1,4 +1,4 @@
-use Rattle.std.proofs.Common.{◌≡◌, ◌≤◌, ◌∙◌, ap, arith, length, subst, List}
+use Rattle.std.proofs.Common.{◌∙◌, ap, arith, subst, List}
 use Rattle.logbook.specs.Pages.{Book}
 use Rattle.crowd_data.specs.Scenario.{Parts}
 use Rattle.published_frames.specs.declared.entry.Step.{Step}

@@ -1,4 +1,4 @@
-use Rattle.std.proofs.Common.{◌≡◌, ◌++◌, ◌<◌, ℕ, List, Option, length, slice_index_or}
+use Rattle.std.proofs.Common.{◌≡◌, ◌++◌, ◌<◌, ℕ, Option, length, slice_index_or}
 use Rattle.std.specs.Prelude.{IfSome}
 use Rattle.published_frames.specs.declared.reader.FrameReader.{FrameReader}
 use Rattle.published_frames.specs.History.{StartsWith}

@@ -1,4 +1,4 @@
-use Rattle.std.proofs.Common.{◌≡◌, ◌∙◌, ◌+◌, ◌≤◌, ap, arith, length, subst, sym, ℕ}
+use Rattle.std.proofs.Common.{◌≡◌, ◌+◌, ap, arith, length, subst, sym, ℕ}
 use Rattle.published_frames.specs.Names.{writer_history, writer_source}
 use Rattle.fixed_vec.specs.Held.{Held}
 use Rattle.crowd_data.specs.declared.post.Post.{Post}

@@ -1,5 +1,4 @@
 use Rattle.std.proofs.Common.{ap, ◌+◌, arith, length}
-use Rattle.crowd_data.specs.declared.post.Post.{Post}
 use Rattle.live_session.proofs.Listed.{length-scripted_from}
 use Rattle.live_session.proofs.gathering.gather.Goals as goal
 

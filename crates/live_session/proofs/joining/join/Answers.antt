@@ -1,4 +1,4 @@
-use Rattle.std.proofs.Common.{◌≡◌, refl, subst, sym}
+use Rattle.std.proofs.Common.{refl, subst}
 use Rattle.live_session.specs.declared.steered.Steering.{Steering}
 use Rattle.live_session.specs.Steering.{IsSteering}
 use Rattle.live_session.proofs.Standing.{ended}

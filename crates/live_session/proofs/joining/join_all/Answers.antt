@@ -1,4 +1,4 @@
-use Rattle.std.proofs.Common.{◌≡◌, ◌∙◌, ◌+◌, ◌≤◌, ◌++◌, ◌∷◌, [], ap, append_assoc, arith, length, length-append, List, slice_index_or, subst, sym, ℕ}
+use Rattle.std.proofs.Common.{◌≡◌, ◌∙◌, ◌+◌, ◌++◌, ◌∷◌, [], ap, append_assoc, arith, length, length-append, List, subst, sym, ℕ}
 use Rattle.std.proofs.lemmas.Grind.{common_steps}
 use Rattle.live_session.specs.declared.steered.Steered.{Steered}
 use Rattle.live_session.specs.declared.steered.Steering.{Steering}

@@ -1,4 +1,4 @@
-use Rattle.std.proofs.Common.{◌≡◌, ◌≤◌, ◌+◌, ◌++◌, ℕ, List, length}
+use Rattle.std.proofs.Common.{◌≡◌, ◌≤◌, ◌++◌, ℕ, List, length}
 use Rattle.std.specs.Vec.{vec_capacity}
 use Rattle.logbook.specs.Pages.{Book}
 use Rattle.crowd_data.specs.Scenario.{Parts}

@@ -1,4 +1,4 @@
-use Rattle.std.proofs.Common.{◌≡◌, ◌∙◌, ◌<◌, ◌+◌, arith, length, length-set, subst, sym}
+use Rattle.std.proofs.Common.{◌∙◌, ◌<◌, ◌+◌, arith, length, length-set, subst, sym}
 use Rattle.published_frames.specs.Names.{writer_history, writer_source}
 use Rattle.live_session.specs.declared.steered.Steering.{Steering}
 use Rattle.live_session.specs.Steering.{IsSteering}

@@ -1,4 +1,4 @@
-use Rattle.std.proofs.Common.{◌+◌, arith, refl}
+use Rattle.std.proofs.Common.{arith, refl}
 use Rattle.live_session.proofs.Standing.{after_turn, by_true, can_turn, has_room}
 use Rattle.live_session.proofs.own_turns.turn_here.Goals as goal
 

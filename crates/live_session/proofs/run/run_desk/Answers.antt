@@ -1,6 +1,5 @@
-use Rattle.std.proofs.Common.{◌≡◌, ◌∙◌, ◌+◌, ◌*◌, ◌≤◌, ap, arith, length, map, mul-le-mul, refl, subst, sym, ℕ, List, []}
+use Rattle.std.proofs.Common.{◌≡◌, ◌∙◌, ◌+◌, ◌*◌, ◌≤◌, ap, arith, length, map, mul-le-mul, subst, sym, ℕ, List}
 use Rattle.std.specs.List.{range_with_len}
-use Rattle.crowd_data.specs.Run.{Snapshot}
 use Rattle.crowd_data.specs.Scenario.{Parts, controllers_of}
 use Rattle.crowd_data.specs.Scripts.{IsCursor, no_post}
 use Rattle.post_box.specs.Ends.{TakerState, first_poster}

@@ -1,4 +1,4 @@
-use Rattle.std.proofs.Common.{◌≡◌, ◌++◌, [], List, subst, sym, ℕ}
+use Rattle.std.proofs.Common.{[], subst}
 use Rattle.outside_io.specs.Causes.{AppendsPrefix, Wrote}
 use Rattle.outside_io.proofs.WroteLemmas.{prefix_longer, wrote_then}
 use Rattle.crowd_data.specs.Run.{Snapshot}

@@ -1,9 +1,8 @@
-use Rattle.std.proofs.Common.{◌≡◌, ◌∙◌, ◌+◌, ◌≤◌, ◌<◌, ◌++◌, ◌∷◌, [], ap, append_assoc, arith, length, length-append, List, slice_index_or, subst, sym, ℕ}
+use Rattle.std.proofs.Common.{◌≡◌, ◌∙◌, ◌+◌, ◌++◌, ◌∷◌, [], ap, append_assoc, arith, length, length-append, List, subst, sym, ℕ}
 use Rattle.std.proofs.lemmas.Grind.{common_steps}
-use Rattle.post_box.specs.Ends.{PosterState}
 use Rattle.controller_turns.specs.Controllers.{ControllerState}
 use Rattle.live_session.specs.declared.steered.Steering.{Steering}
-use Rattle.live_session.specs.Steering.{AreSteering, IsSteering, poster_of}
+use Rattle.live_session.specs.Steering.{AreSteering, IsSteering}
 use Rattle.live_session.proofs.Rows.{next_below, row_more}
 use Rattle.live_session.proofs.Standing.{controllers_few, length-first_posters, next_poster}
 use Rattle.live_session.proofs.starting.start_all.Goals as goal

@@ -1,6 +1,5 @@
 use Rattle.std.proofs.Common.{◌+◌}
 use Rattle.live_session.proofs.Listed.{listed_fits, listed_sound}
-use Rattle.live_session.proofs.Written.{in_range}
 use Rattle.live_session.proofs.stepping.write_next.Goals as goal
 
 pub step_gated-requires-clause-posts : goal.step_gated-requires-clause-posts
