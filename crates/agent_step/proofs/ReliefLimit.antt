@@ -20,8 +20,8 @@ module _ (scenario : Parts) (agents : List Agent) (bodies : List Body) (present 
   gives_little vel mark relief moves = ⊎_elim
       (λ more.
       let met =
-          enough_relief (hard_planes scenario (agent_at crowd who)) (soft_planes crowd who) _ scenario.ring (agent_at crowd who).speed (moves-at agents bodies present who here).build.speed refl
-          (soft_sized agents bodies present who here) moves.room in
+      enough_relief (hard_planes scenario (agent_at crowd who)) (soft_planes crowd who) _ scenario.ring (agent_at crowd who).speed (moves-at agents bodies present who here).build.speed refl
+      (soft_sized agents bodies present who here) moves.room in
       absurd (moves.least 262143 more met.0 met.1))
       (λ little. little)
       (cases_lt 262143 relief)

@@ -38,13 +38,22 @@ fn circle(alloc: Global, steps: u32) -> Result<String, Fail> {
     for number in 0..36 {
         let (x, y) = point(number);
         let line = format!(in alloc;
-            "agent,{},{},0,0,{},{},1500,500,15000,10,40,10\n", 3000 * x, 3000 * y, -7 * x, -7 * y)?;
+            "agent,{},{},0,0,{},{},1500,500,15000,10,40,10\n",
+            3000 * x,
+            3000 * y,
+            -7 * x,
+            -7 * y
+        )?;
         text.push_str(line.as_str())?;
     }
     for number in 0..36 {
         let (x, y) = point(number);
-        let line =
-            format!(in alloc; "goal,{},{number},{},{},450\n", number % 4, -3000 * x, -3000 * y)?;
+        let line = format!(in alloc;
+            "goal,{},{number},{},{},450\n",
+            number % 4,
+            -3000 * x,
+            -3000 * y
+        )?;
         text.push_str(line.as_str())?;
     }
     Ok(text)
@@ -86,7 +95,12 @@ fn first_frame_of_the_circle(rt: HostRuntime) -> Result<(), Fail> {
     let out = written(&rt, rt.alloc(), &["run"], 1)?;
     let lines: &[u8] =
         b"frame,1\nbody,0,194545,0,-455,0,-455,0,feasible,0\nbody,1,188559,47888,-441,-112,-441,-112,feasible,0\n";
-    assert_eq!(rt; out.held().windows(lines.len()).any(|window| window == lines), true);
+    assert_eq!(rt;
+        out.held()
+            .windows(lines.len())
+            .any(|window| window == lines),
+        true
+    );
     Ok(())
 }
 

@@ -33,10 +33,18 @@ fn no_controller(rt: HostRuntime) -> Result<(), Fail> {
 
 #[test]
 fn refused_scenario_runs_no_controller(rt: HostRuntime) -> Result<(), Fail> {
-    let ended = ask(&rt, rt.alloc(), &["live"], b"crowd,1\nsteps,1\ngoal,0,0,1000,0,300\n")?;
+    let ended = ask(
+        &rt,
+        rt.alloc(),
+        &["live"],
+        b"crowd,1\nsteps,1\ngoal,0,0,1000,0,300\n",
+    )?;
     assert_eq!(rt; ended.status, 3);
     assert_eq!(rt; ended.out.held(), b"".as_slice());
-    assert_eq!(rt; ended.err.held(), b"refused: record 2: NoSuchAgent\n".as_slice());
+    assert_eq!(rt;
+        ended.err.held(),
+        b"refused: record 2: NoSuchAgent\n".as_slice()
+    );
     Ok(())
 }
 
@@ -60,6 +68,9 @@ fn live_is_no_offline_command(rt: HostRuntime) -> Result<(), Fail> {
     );
     assert_eq!(rt; status, 2);
     assert_eq!(rt; out.held(), b"".as_slice());
-    assert_eq!(rt; err.held(), b"usage: crowd run|check|sample|soak|live\n".as_slice());
+    assert_eq!(rt;
+        err.held(),
+        b"usage: crowd run|check|sample|soak|live\n".as_slice()
+    );
     Ok(())
 }
