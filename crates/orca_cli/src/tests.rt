@@ -222,7 +222,7 @@ fn input_is_one_byte_too_long(rt: HostRuntime) -> Result<(), Fail> {
 fn names_the_first_cause(rt: HostRuntime) -> Result<(), Fail> {
     let refused: [(&[u8], &[u8]); 15] = [
         (b"", b"refused: record 0: NoHeader\n"),
-        (b"crowd,2\nsteps,1\n", b"refused: record 0: NoHeader\n"),
+        (b"crowd,3\nsteps,1\n", b"refused: record 0: NoHeader\n"),
         (b"crowd,1\n", b"refused: record 1: NoSteps\n"),
         (
             b"crowd,1\nsteps,1\ntree,1\n",
