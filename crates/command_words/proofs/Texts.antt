@@ -180,7 +180,7 @@ sound known (word ∷ words) = (λ given final e. idle given final (option_word 
 abbrev pub are_names : List Known → Bool
 are_names known = list_all (λ k. is_name k.name) known
 
-both_true : (a b : Bool) → (a && b) ≡ true → (a ≡ true) × (b ≡ true)
+pub both_true : (a b : Bool) → (a && b) ≡ true → (a ≡ true) × (b ≡ true)
 both_true true b e = (refl, e)
 both_true false b e = absurd (true≢false (sym e))
 

@@ -3,6 +3,7 @@ use Rattle.std.specs.Prelude.{◌≡◌, ℕ, true, false, List, [], ◌∷◌, 
 use Rattle.std.specs.Str.{bytes_eq}
 use Rattle.command_words.specs.Options.{Known, Text, options_of, value_of}
 use Rattle.command_words.specs.Numbers.{number_or}
+use Rattle.command_words.specs.declared.limits.TheConstants.{GREATEST_SAMPLE, MOST_AGENTS, MOST_STEPS, MOST_WORKERS}
 use Rattle.command_words.specs.declared.commands.Command.{Command}
 use Rattle.command_words.specs.declared.commands.Command.TheVariants as command
 use Rattle.command_words.specs.declared.commands.Name.{Name}
@@ -45,16 +46,16 @@ abbrev pub Values : Type 0
 Values = Text → Option Text
 
 abbrev pub workers_in : Values → Option ℕ
-workers_in value = number_or (Some 1) 1 64 (value (codes "workers"))
+workers_in value = number_or (Some 1) 1 MOST_WORKERS (value (codes "workers"))
 
 abbrev pub sample_number_in : Values → Option ℕ
-sample_number_in value = number_or None 0 65535 (value (codes "number"))
+sample_number_in value = number_or None 0 GREATEST_SAMPLE (value (codes "number"))
 
 abbrev pub agents_in : Values → Option ℕ
-agents_in value = number_or None 1 10000 (value (codes "agents"))
+agents_in value = number_or None 1 MOST_AGENTS (value (codes "agents"))
 
 abbrev pub steps_in : Values → Option ℕ
-steps_in value = number_or None 0 100000 (value (codes "steps"))
+steps_in value = number_or None 0 MOST_STEPS (value (codes "steps"))
 
 -- the command that the three numbers of a crowd make
 abbrev pub with_crowd : Values → (ℕ → ℕ → ℕ → Option Command) → Option Command

@@ -4,10 +4,12 @@ ghost use Rattle.clap.specs.Words.{first_value, found_of};
 ghost use Rattle.command_words.specs.Commands.{Answers, agents_in, command_of, command_with, name_of, sample_number_in, optional, options_for, required, steps_in, workers_in};
 ghost use Rattle.command_words.specs.Options.{options_of};
 ghost use Rattle.command_words.specs.Sizes.{IsSized};
+ghost use Rattle.command_words.specs.declared.limits.TheConstants.{GREATEST_SAMPLE, MOST_AGENTS, MOST_STEPS, MOST_WORKERS};
 ghost use Rattle.command_words.specs.Spelling.{Asks};
 ghost use Rattle.command_words.specs.declared.commands.Command.{Command};
 ghost use Rattle.command_words.specs.Reading.{ReadsOptions, known_of};
 
+use crate::limits::{GREATEST_SAMPLE, MOST_AGENTS, MOST_STEPS, MOST_WORKERS};
 use crate::options::{KnownOption, option_number, read_options};
 use clap::ArgMatches;
 use std::alloc::Global;
@@ -115,30 +117,30 @@ fn read_named<'a>(
 
 fn workers(matches: &ArgMatches<'_>) -> Option<u32>
     ensures value { result ≡ workers_in (first_value (found_of matches.now)) }
-    ensures limits { IfSome result (λ n. (1 ≤ n) × (n ≤ 64)) }
+    ensures limits { IfSome result (λ n. (1 ≤ n) × (n ≤ MOST_WORKERS)) }
 {
-    option_number(matches, "workers", Some(1), 1, 64)
+    option_number(matches, "workers", Some(1), 1, MOST_WORKERS)
 }
 
 fn sample_number(matches: &ArgMatches<'_>) -> Option<u32>
     ensures value { result ≡ sample_number_in (first_value (found_of matches.now)) }
-    ensures limits { IfSome result (λ n. (0 ≤ n) × (n ≤ 65535)) }
+    ensures limits { IfSome result (λ n. (0 ≤ n) × (n ≤ GREATEST_SAMPLE)) }
 {
-    option_number(matches, "number", None, 0, 65_535)
+    option_number(matches, "number", None, 0, GREATEST_SAMPLE)
 }
 
 fn agents(matches: &ArgMatches<'_>) -> Option<u32>
     ensures value { result ≡ agents_in (first_value (found_of matches.now)) }
-    ensures limits { IfSome result (λ n. (1 ≤ n) × (n ≤ 10000)) }
+    ensures limits { IfSome result (λ n. (1 ≤ n) × (n ≤ MOST_AGENTS)) }
 {
-    option_number(matches, "agents", None, 1, 10_000)
+    option_number(matches, "agents", None, 1, MOST_AGENTS)
 }
 
 fn steps(matches: &ArgMatches<'_>) -> Option<u32>
     ensures value { result ≡ steps_in (first_value (found_of matches.now)) }
-    ensures limits { IfSome result (λ n. (0 ≤ n) × (n ≤ 100000)) }
+    ensures limits { IfSome result (λ n. (0 ≤ n) × (n ≤ MOST_STEPS)) }
 {
-    option_number(matches, "steps", None, 0, 100_000)
+    option_number(matches, "steps", None, 0, MOST_STEPS)
 }
 
 fn sample(matches: &ArgMatches<'_>) -> Option<Command>

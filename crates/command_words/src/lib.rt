@@ -2,10 +2,12 @@
 #![tactic(auto)]
 
 mod commands;
+mod limits;
 mod numbers;
 mod options;
 
 pub use commands::{Command, WordsFault, read_command};
+pub use limits::{GREATEST_SAMPLE, MOST_AGENTS, MOST_STEPS, MOST_WORKERS};
 
 #[cfg(test)]
 mod tests;

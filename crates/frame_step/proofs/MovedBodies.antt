@@ -51,10 +51,6 @@ module _ (scenario : Parts) (frame : Snapshot) (bodies : List Body) (full : leng
     moved = λ who h. (all.each who (omega (arith, all.count, full, h))).moved;
   }
 
-  -- and each has a velocity within its limits
-  pub next_slow : (who : ℕ) → who < length bodies → IsVelocity (body_at bodies who).vel
-  next_slow who h = (all.each who h).slow
-
 -- posts are taken in before the step or with it
 pub next_posted : (scenario : Parts) (frame : Snapshot) (posts : List Post) (next : Snapshot) → IsNext scenario (record frame { bodies = after_posts posts frame.bodies }) [] next → IsNext scenario frame posts next
 next_posted scenario frame posts next step =

@@ -10,9 +10,9 @@ use Rattle.crowd_data.specs.SafeSteps.{IsSafeStep}
 use Rattle.crowd_data.specs.Scenario.{IsValid, Parts}
 use Rattle.crowd_data.proofs.Frames.{posted_present}
 use Rattle.run_law.specs.Laws.{EveryStepIsSafe}
+use Rattle.run_law.proofs.PresentNext.{step_present}
 use Rattle.frame_step.specs.Moved.{AreAllMoved}
-use Rattle.frame_step.proofs.MovedBodies.{next_is, next_posted, next_slow}
-use Rattle.frame_step.proofs.Present.{next_present}
+use Rattle.frame_step.proofs.MovedBodies.{next_is, next_posted}
 
 module _ (scenario : Parts) (frame : Snapshot) (posts : List Post) (bodies : List Body) (valid : IsValid scenario) (present : IsPresent scenario frame)
     (sound : All (IsPost (length scenario.agents)) posts) (taken : bodies ≡ after_posts posts frame.bodies) where
@@ -36,7 +36,7 @@ module _ (scenario : Parts) (frame : Snapshot) (posts : List Post) (bodies : Lis
         (subst (λ (b : List Body). IsNext scenario (record { number = frame.number; bodies = b }) [] made) taken frozen_step)
 
     pub made_present : IsPresent scenario made
-    made_present = next_present scenario frozen made valid frozen_present frozen_step (next_slow scenario frozen new frozen_present.full moved)
+    made_present = step_present scenario valid frame made posts present sound made_next
 
     pub made_safe : EveryStepIsSafe scenario → IsSafeStep scenario frame made
     made_safe law = law frame made posts present made_next
