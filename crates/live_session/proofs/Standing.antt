@@ -30,13 +30,10 @@ use Rattle.live_session.specs.Running.{IsPublished}
 use Rattle.live_session.specs.Steering.{AreSteering, IsLate, IsSteered, IsSteering, Stands, controller_of, first_posters, most_posts, poster_of}
 use Rattle.live_session.proofs.Rows.{at_next, next_below}
 
+-- the first case, where a test was true
 pub by_true : (P Q : Type 0) (b : Bool) → MatchBool b P Q → b ≡ true → P
 by_true P Q true m e = m
 by_true P Q false m e = absurd (true≢false (sym e))
-
-pub by_false : (P Q : Type 0) (b : Bool) → MatchBool b P Q → b ≡ false → Q
-by_false P Q true m e = absurd (true≢false e)
-by_false P Q false m e = m
 
 -- ---- its poster
 
