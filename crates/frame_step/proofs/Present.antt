@@ -1,23 +1,19 @@
 -- The agents of a frame that is present stand where they can be placed.
-use Rattle.std.proofs.Common.{◌≡◌, ◌∙◌, ◌<◌, ◌≤◌, ◌+◌, ◌*◌, ◌^◌, ℕ, List, [], ◌∷◌, length, map, sym, ap, subst, arith, ℤ, ◌+ℤ◌, unsigned_abs}
+use Rattle.std.proofs.Common.{◌≡◌, ◌∙◌, ◌≤◌, ◌+◌, ◌*◌, ◌^◌, ℕ, List, [], ◌∷◌, length, map, sym, ap, subst, arith}
 use Rattle.std.specs.List.{All}
-use Rattle.std.proofs.lemmas.Int.{ints}
-use Rattle.std.proofs.lemmas.List.Elements.{All-cons, All-from_get_or, All-head, All-map, All-nil, All-tail}
+use Rattle.std.proofs.lemmas.List.Elements.{All-cons, All-head, All-map, All-nil, All-tail}
 use Rattle.fixed_vec.specs.declared.vector.V2.{V2}
-use Rattle.fixed_vec.specs.Vector.{IsBelow, plus}
+use Rattle.fixed_vec.specs.Vector.{IsBelow}
 use Rattle.crowd_data.specs.declared.agent.Agent.{Agent}
 use Rattle.crowd_data.specs.declared.frame.Body.{Body}
 use Rattle.crowd_data.specs.declared.pair.Place.{Place}
 use Rattle.crowd_data.specs.Advice.{place_of}
-use Rattle.crowd_data.specs.Limits.{IsAgent, IsVelocity, IsWithin}
+use Rattle.crowd_data.specs.Limits.{IsAgent, IsWithin}
 use Rattle.crowd_data.specs.Present.{IsBody, IsPresent}
-use Rattle.crowd_data.specs.Run.{IsNext, Snapshot, body_at, crowd_of, no_body, standing}
-use Rattle.crowd_data.specs.SafeSteps.{vel_in}
+use Rattle.crowd_data.specs.Run.{Snapshot, crowd_of, standing}
 use Rattle.crowd_data.specs.Scenario.{IsValid, Parts}
 use Rattle.crowd_data.proofs.Crowds.{length-places}
 use Rattle.agent_kdtree.specs.Placed.{IsPlaced}
-use Rattle.run_law.proofs.Runs.{step_safe}
-use Rattle.run_law.proofs.Sound.{present_sound}
 
 -- ---- where the agents stand
 

@@ -1,8 +1,7 @@
 -- The lists of posts of a live run.
-use Rattle.std.proofs.Common.{◌≡◌, ◌+◌, ◌^◌, ◌≤◌, ℕ, Bool, true, false, cond, eqb, List, [], ◌∷◌, ◌++◌, length, arith, sym, subst}
+use Rattle.std.proofs.Common.{◌≡◌, ◌+◌, ◌≤◌, ℕ, Bool, true, false, cond, eqb, List, [], ◌∷◌, ◌++◌, length, arith, sym, subst}
 use Rattle.std.specs.List.{All}
 use Rattle.std.proofs.lemmas.List.Elements.{All-append}
-use Rattle.fixed_vec.specs.Vector.{IsBelow}
 use Rattle.crowd_data.specs.declared.post.Post.{Post}
 use Rattle.crowd_data.specs.declared.post.ScriptPost.{ScriptPost}
 use Rattle.crowd_data.specs.Limits.{IsPost}
@@ -32,7 +31,3 @@ pub listed_more : (scenario : Parts) (first number : ℕ) (lists : List (List Po
     → AreLiveLists scenario first (lists ++ posts ∷ [])
 listed_more scenario first number [] posts e all list = (subst (λ (n : ℕ). IsLiveList scenario n posts) (omega (arith, e)) list, tt)
 listed_more scenario first number (x ∷ xs) posts e all list = (all.0, listed_more scenario (first + 1) number xs posts (omega (arith, e)) all.1 list)
-
--- and a velocity that can be printed
-pub listed_fits : (scenario : Parts) (number : ℕ) (posts : List Post) → IsValid scenario → IsLiveList scenario number posts → All (λ (post : Post). IsBelow post.vel (2 ^ 31)) posts
-listed_fits scenario number posts valid list k d h = let limits = (listed_sound scenario number posts valid list k d h).vel in (omega (arith, limits.0), omega (arith, limits.1))

@@ -9,7 +9,7 @@ ghost use Rattle.live_session.specs.Session.{IsClosing};
 
 use crate::desk::Desk;
 use crate::fault::LiveFault;
-use crate::gathering::{append, list_script};
+use crate::gathering::append;
 use crate::joining::parted;
 use crate::steered::Steered;
 use crate::stepping::advance;
@@ -17,6 +17,7 @@ use frame_text::write_end;
 use outside_io::{Gate, Sink};
 use post_box::{PostBox, Taker, finish};
 use published_frames::{FrameReader, FrameWriter};
+use run_text::list_script;
 use std::alloc::Global;
 use std::sync::Wait;
 use std::thread::Threads;

@@ -4,27 +4,12 @@ ghost use Rattle.crowd_data.specs.Run.{script_of};
 ghost use Rattle.crowd_data.specs.Scripts.{IsCursor};
 ghost use Rattle.post_box.specs.Ends.{IsTakerOf, Transfers};
 
-use crowd_data::{Post, push_script};
+use crowd_data::Post;
 use fixed_vec::{List, NoMemory};
 use frame_step::Stepper;
 use post_box::{MOST_TAKEN, PostBox, Taker};
+use run_text::list_script;
 use std::sync::Wait;
-
-/// Leaves the scripted posts of the next frame in the list. `place` is where they begin among all scripted posts; the
-/// answer is where those of later frames begin.
-pub(crate) fn list_script(stepper: &Stepper, list: &mut List<Post>, place: usize) -> usize
-    requires below { stepper.now.frame.number < stepper.now.scenario.steps }
-    requires cursor { IsCursor stepper.now.scenario.posts (stepper.now.frame.number + 1) place }
-    requires room { length stepper.now.scenario.posts ≤ length list.old.items + list.old.spare }
-    ensures posts { list.new.items ≡ script_of stepper.now.scenario (stepper.now.frame.number + 1) }
-    ensures cursor { IsCursor stepper.now.scenario.posts (stepper.now.frame.number + 2) result }
-    ensures room { length list.new.items + list.new.spare ≡ length list.old.items + list.old.spare }
-{
-    let posts = stepper.scenario().posts();
-    let number = stepper.frame().number + 1;
-    list.clear();
-    push_script(list, posts, place, number)
-}
 
 /// Leaves the posts of the next frame in the list: the scripted ones, and behind them those that wait in the box.
 pub(crate) fn gather<R: Wait>(

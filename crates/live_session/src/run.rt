@@ -21,10 +21,11 @@ use core::mem;
 use crowd_data::{Frame, Scenario};
 use fixed_vec::{List, NoMemory};
 use frame_step::Stepper;
-use frame_text::{write_end, write_frame, write_scenario};
+use frame_text::write_end;
 use outside_io::{Failed, Gate, Sink};
 use post_box::MOST_TAKEN;
 use published_frames::{CONTROLLERS, FrameReader, FrameWriter};
+use run_text::write_start;
 use std::alloc::Global;
 use std::marker::Brand;
 use std::snapshot::Snapshot;
@@ -65,18 +66,6 @@ fn open_frames<R: Wait>(
         }
     }
     Err(NoMemory)
-}
-
-// The text of the scenario and of frame 0.
-fn write_start<T: Sink>(out: &mut T, stepper: &Stepper) -> Result<(), Failed>
-    ensures text { Wrote (T.held out.old) (T.held out.new) result (scenario_text stepper.now.scenario ++ frame_text stepper.now.frame []) }
-    ensures cause { HasCause (T.faults out.old) (T.faults out.new) result }
-{
-    match write_scenario(out, stepper.scenario()) {
-        Ok(()) => {}
-        Err(refused) => return Err(refused),
-    }
-    write_frame(out, stepper.frame(), &[])
 }
 
 // All that comes after frame 0, where there is a step.

@@ -13,7 +13,6 @@ use crate::fault::LiveFault;
 use crowd_data::{Frame, Moves, Post, copy_frame, copy_posts};
 use fixed_vec::NoMemory;
 use frame_step::Stepper;
-use frame_text::write_frame;
 use outside_io::{Failed, Gate, Sink};
 use published_frames::FrameWriter;
 use std::alloc::Global;
@@ -36,9 +35,8 @@ fn write_next<R: Threads + Sync, T: Sink, G: Gate + Sync>(
     ensures text { Wrote (T.held out.old) (T.held out.new) result (frame_text stepper.new.frame posts.now) }
     ensures cause { HasCause (T.faults out.old) (T.faults out.new) result }
 {
-    let _valid = stepper.scenario();
-    stepper.step_gated(rt, posts, gate);
-    write_frame(out, stepper.frame(), posts)
+    let _scenario = stepper.scenario();
+    run_text::write_next(rt, gate, out, stepper, posts)
 }
 
 // Publishes a frame that was made with these posts.

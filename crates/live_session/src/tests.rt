@@ -7,12 +7,15 @@ use outside_io::{Gate, MemSink, OpenGate};
 use scenario_read::read_scenario;
 use std::alloc::Global;
 use std::sync::Wait;
-use std::sync::atomic::{AtomicBool, Ordering};
+use std::sync::atomic::{AtomicBool, AtomicU64, Ordering};
 use std::test::Fail;
 use std::thread::{Threads, yield_now};
 
 // Room for all that these runs write.
 const ROOM: usize = 1_000_000;
+
+// The number of worker 0 at a gate.
+const FIRST_WORKER: u32 = 16;
 
 // As many places as there are.
 const ALL_PLACES: u32 = 16;
@@ -211,5 +214,62 @@ fn controllers_run_beside_each_other(rt: HostRuntime) -> Result<(), Fail> {
     assert_eq!(rt; ended.fault, None);
     assert!(rt; meeting.met[0].load(Ordering::SeqCst));
     assert!(rt; meeting.met[1].load(Ordering::SeqCst));
+    Ok(())
+}
+
+// At steps one and two of one worker: whether it saw turns 0 and 1 of the controller come to the gate.
+#[derive(Drop)]
+struct Holding {
+    steps: AtomicU64,
+    came: [AtomicBool; 2],
+    seen: [AtomicBool; 2],
+}
+
+// Looks for a flag, for a while.
+fn sees(flag: &AtomicBool) -> bool {
+    for _ in 0..1_000_000u32 {
+        if flag.load(Ordering::SeqCst) {
+            return true;
+        }
+        yield_now();
+    }
+    false
+}
+
+impl Gate for Holding {
+    fn pass(&self, who: u32, turn: u64) {
+        if who == 0 && turn < 2 {
+            self.came[turn as usize].store(true, Ordering::SeqCst);
+        }
+        if who == FIRST_WORKER {
+            let step = self.steps.fetch_add(1, Ordering::SeqCst);
+            if step < 2 {
+                self.seen[step as usize].store(sees(&self.came[step as usize]), Ordering::SeqCst);
+            }
+        }
+    }
+}
+
+// The controller posts its turn 0 before it comes to the gate for turn 1, which step 2 waits for: so that post is taken
+// in before step 3.
+#[test]
+fn posts_are_taken_before_the_last_frame(rt: HostRuntime) -> Result<(), Fail> {
+    let input: &[u8] =
+        b"crowd,1\nsteps,4\nagent,0,0,0,0,0,0,500,400,15000,10,10,4\ngoal,0,0,1000,0,300\n";
+    let holding = Holding {
+        steps: AtomicU64::new(0),
+        came: [AtomicBool::new(false), AtomicBool::new(false)],
+        seen: [AtomicBool::new(false), AtomicBool::new(false)],
+    };
+    let ended = run(&rt, rt.alloc(), input, ALL_PLACES, ROOM, &holding)?;
+    assert_eq!(rt; ended.fault, None);
+    assert!(rt; holding.seen[0].load(Ordering::SeqCst));
+    assert!(rt; holding.seen[1].load(Ordering::SeqCst));
+    let take: &[u8] = b"take,0,0,0,300,0\n";
+    let last: &[u8] = b"frame,4\n";
+    let held = ended.out.held();
+    let taken = held.windows(take.len()).position(|window| window == take);
+    let ended_at = held.windows(last.len()).position(|window| window == last);
+    assert!(rt; taken.is_some() && taken < ended_at);
     Ok(())
 }

@@ -10,8 +10,8 @@ use Rattle.run_law.specs.Laws.{EveryRunIsSafe}
 use Rattle.scenario_read.specs.Records.{records_of}
 use Rattle.scenario_read.proofs.OneOutcome.{accepted_or_refused}
 use Rattle.orca_cli.specs.Output.{IsCutTextFor, IsFor, IsRefused, IsScenarioOf, IsTextFor, RunsAreSafe, reads, waits}
-use Rattle.orca_cli.specs.Status.{Channels, Holds, IsUntouched, IsUnwritten, ReadInput, WroteOutput, WrotePart, input_limit}
-use Rattle.orca_cli.specs.Working.{HasNone, HasScenario, Input, IsInputFault, WroteLiveFor, WroteOne}
+use Rattle.orca_cli.specs.Status.{Channels, Holds, IsUntouched, ReadInput, WroteOutput, WrotePart, input_limit}
+use Rattle.orca_cli.specs.Working.{HasScenario, Input, WroteLiveFor, WroteOne}
 use Rattle.orca_cli.specs.declared.status.Status.{Status}
 use Rattle.orca_cli.specs.declared.status.Status.TheVariants.{Done, NoMemory, NoMemoryInRun, Usage, Refused, ReadFault, WriteFault, TooLong}
 

@@ -1,14 +1,11 @@
 -- What is written of a run: the frames one after another, or a prefix of the whole where a write failed.
-use Rattle.std.proofs.Common.{◌≡◌, ◌≤◌, ◌^◌, ◌++◌, List, [], ℕ, Result, sym, subst, append_assoc, arith}
-use Rattle.std.specs.List.{All}
+use Rattle.std.proofs.Common.{◌≡◌, ◌≤◌, ◌++◌, List, [], ℕ, Result, sym, subst, append_assoc}
 use Rattle.std.specs.declared.option.Option.{Option}
 use Rattle.std.specs.Io.KnownBytes.{Appends}
 use Rattle.std.proofs.KnownBytes.{Appends-nil, Appends-trans}
 use Rattle.outside_io.specs.Causes.{AppendsPrefix, Wrote}
 use Rattle.outside_io.proofs.WroteLemmas.{prefix_longer, prefix_then, wrote_then}
-use Rattle.fixed_vec.specs.Vector.{IsBelow}
 use Rattle.crowd_data.specs.declared.post.Post.{Post}
-use Rattle.crowd_data.specs.Limits.{IsPost}
 use Rattle.crowd_data.specs.Run.{IsNext, Snapshot, scripts_of, start_of}
 use Rattle.crowd_data.specs.Scenario.{IsValid, Parts}
 use Rattle.crowd_data.proofs.Frames.{length-starting_bodies}
@@ -25,10 +22,6 @@ IsPart scenario first present a b =
 -- nothing was written yet
 pub part_none : (scenario : Parts) (first : Snapshot) (a : Option (List ℕ)) → IsPart scenario first first a a
 part_none scenario first a = ([], (λ text behind. behind), Appends-nil a)
-
--- the text has room for the velocities of posts
-pub posts_fit : (agents : ℕ) (posts : List Post) → All (IsPost agents) posts → All (λ (post : Post). IsBelow post.vel (2 ^ 31)) posts
-posts_fit agents posts all k d h = let limits = (all k d h).vel in (omega (arith, limits.0), omega (arith, limits.1))
 
 -- ---- the frames behind a frame
 
@@ -70,31 +63,19 @@ module _ (scenario : Parts) (valid : IsValid scenario) (first : Snapshot) (start
   begun : IsFull scenario first
   begun = rw start (length-starting_bodies 0 scenario.agents)
 
-  -- a prefix of the transcript
-  abbrev pub WrotePrefix : Option (List ℕ) → Type 0
-  WrotePrefix c = (text : List ℕ) × IsTranscript scenario (scripts_of scenario) text × AppendsPrefix a c text
+  -- the text of the scenario and of frame 0
+  abbrev pub start_text : List ℕ
+  start_text = scenario_text scenario ++ frame_text first []
 
-  -- a failure in the midst of the scenario's text
-  pub text_broken_off : AppendsPrefix a b (scenario_text scenario) → WrotePrefix b
-  text_broken_off p =
-      let (rest, behind) = some_behind scenario valid first begun in
-      (scenario_text scenario ++ (frame_text first [] ++ rest), whole_text scenario first rest start behind, prefix_longer a b (scenario_text scenario) (frame_text first [] ++ rest) p)
+  with_start : (rest : List ℕ) → IsTextBehind scenario first rest → IsTranscript scenario (scripts_of scenario) (start_text ++ rest)
+  with_start rest behind =
+      subst (IsTranscript scenario (scripts_of scenario)) (sym (append_assoc (scenario_text scenario) (frame_text first []) rest)) (whole_text scenario first rest start behind)
 
-  module _ (c : Option (List ℕ)) (held : Appends a b (scenario_text scenario)) where
-    -- or of frame 0
-    pub start_broken_off : (shown : Snapshot) → shown ≡ first → AppendsPrefix b c (frame_text shown []) → WrotePrefix c
-    start_broken_off shown same p =
-        let (rest, behind) = some_behind scenario valid first begun in (
-          scenario_text scenario ++ (frame_text first [] ++ rest),
-          whole_text scenario first rest start behind,
-          prefix_then a b c (scenario_text scenario) (frame_text first [] ++ rest) held (prefix_longer b c (frame_text first []) rest (subst (λ f. AppendsPrefix b c (frame_text f [])) same p)),
-        )
+  -- a failure in the midst of it
+  pub start_broken_off : AppendsPrefix a b start_text → (text : List ℕ) × IsTranscript scenario (scripts_of scenario) text × AppendsPrefix a b text
+  start_broken_off p = let (rest, behind) = some_behind scenario valid first begun in (start_text ++ rest, with_start rest behind, prefix_longer a b start_text rest p)
 
-    -- the frames behind frame 0 were written, or a prefix of them
-    pub run_written : (shown : Snapshot) → shown ≡ first → Appends b c (frame_text shown []) → {T E : Type 0} (d : Option (List ℕ)) (r : Result T E)
-        → (text : List ℕ) × IsTextBehind scenario first text × Wrote c d r text → (text : List ℕ) × IsTranscript scenario (scripts_of scenario) text × Wrote a d r text
-    run_written shown same frame d r (rest, behind, w) = (
-      scenario_text scenario ++ (frame_text first [] ++ rest),
-      whole_text scenario first rest start behind,
-      wrote_then a b d r (scenario_text scenario) (frame_text first [] ++ rest) held (wrote_then b c d r (frame_text first []) rest (subst (λ f. Appends b c (frame_text f [])) same frame) w),
-    )
+  -- the frames behind frame 0 were written, or a prefix of them
+  pub run_written : Appends a b start_text → {T E : Type 0} (d : Option (List ℕ)) (r : Result T E)
+      → (text : List ℕ) × IsTextBehind scenario first text × Wrote b d r text → (text : List ℕ) × IsTranscript scenario (scripts_of scenario) text × Wrote a d r text
+  run_written held d r (rest, behind, w) = (start_text ++ rest, with_start rest behind, wrote_then a b d r start_text rest held w)

@@ -6,12 +6,12 @@ ghost use Rattle.frame_text.specs.Transcript.{IsTranscript};
 ghost use Rattle.orca_cli.specs.Behind.{IsTextBehind};
 ghost use Rattle.orca_cli.specs.Working.{WroteSome};
 
-use crate::scripted::step_scripted;
 use crowd_data::Post;
 use fixed_vec::List;
 use frame_step::Stepper;
-use frame_text::{write_end, write_frame, write_scenario};
+use frame_text::write_end;
 use outside_io::{Failed, Gate, Sink};
+use run_text::{list_script, write_next, write_start};
 use std::thread::Threads;
 
 // Writes the frames of all steps, of which none was made yet, and the line at the end.
@@ -30,8 +30,8 @@ fn write_steps<T: Sink, R: Threads + Sync, G: Gate + Sync>(
     let steps = stepper.scenario().steps();
     let mut place = 0;
     while stepper.frame().number < steps {
-        place = step_scripted(rt, stepper, script, place, gate);
-        write_frame(out, stepper.frame(), script.items())?;
+        place = list_script(stepper, script, place);
+        write_next(rt, gate, out, stepper, script.items())?;
     }
     write_end(out, stepper.frame().number)
 }
@@ -50,7 +50,7 @@ pub(crate) fn write_run<T: Sink, R: Threads + Sync, G: Gate + Sync>(
     ensures text { WroteSome (IsTranscript stepper.old.scenario (scripts_of stepper.old.scenario)) (T.held out.old) (T.held out.new) result }
     ensures cause { HasCause (T.faults out.old) (T.faults out.new) result }
 {
-    write_scenario(out, stepper.scenario())?;
-    write_frame(out, stepper.frame(), &[])?;
+    let _scenario = stepper.scenario();
+    write_start(out, stepper)?;
     write_steps(rt, out, stepper, script, gate)
 }

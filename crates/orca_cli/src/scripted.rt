@@ -5,10 +5,11 @@ ghost use Rattle.crowd_data.specs.Limits.{IsPost};
 ghost use Rattle.crowd_data.specs.Run.{IsNext, script_of};
 ghost use Rattle.crowd_data.specs.Scripts.{IsCursor};
 
-use crowd_data::{Post, push_script};
+use crowd_data::Post;
 use fixed_vec::List;
 use frame_step::Stepper;
 use outside_io::Gate;
+use run_text::list_script;
 use std::thread::Threads;
 
 /// Makes the next frame with its scripted posts, which it leaves in `script`. `place` is where they begin
@@ -30,10 +31,7 @@ pub(crate) fn step_scripted<R: Threads + Sync, G: Gate + Sync>(
     ensures cursor { IsCursor stepper.old.scenario.posts (stepper.new.frame.number + 1) result }
     ensures room { length script.new.items + script.new.spare ≡ length script.old.items + script.old.spare }
 {
-    let posts = stepper.scenario().posts();
-    let number = stepper.frame().number + 1;
-    script.clear();
-    let later = push_script(script, posts, place, number);
+    let later = list_script(stepper, script, place);
     stepper.step_gated(rt, script.items(), gate);
     later
 }

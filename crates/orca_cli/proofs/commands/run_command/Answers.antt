@@ -1,5 +1,4 @@
 use Rattle.std.proofs.Common.{refl}
-use Rattle.std.proofs.KnownBytes.{Keeps-refl}
 use Rattle.orca_cli.proofs.Worked.{worked}
 use Rattle.orca_cli.proofs.commands.run_command.Goals as goal
 

@@ -5,7 +5,7 @@ use Rattle.crowd_data.specs.Run.{Snapshot}
 use Rattle.crowd_data.specs.Scenario.{Parts}
 use Rattle.std.specs.Io.KnownBytes.{Appends}
 use Rattle.frame_text.specs.Transcript.{frame_text, scenario_text}
-use Rattle.live_session.proofs.run.write_start.Goals as goal
+use Rattle.run_text.proofs.frames.write_start.Goals as goal
 
 pub returns-in-Err-clause-text : goal.returns-in-Err-clause-text
 returns-in-Err-clause-text g c =
