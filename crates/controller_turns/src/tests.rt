@@ -10,7 +10,8 @@ ghost use Rattle.controller_turns.specs.Controllers.{Suits};
 
 use crate::{Controller, Notice, Stage, Told, Turns, Writes, begin, heading};
 use crowd_data::{
-    Agent, FIRST_VERSION, Frame, Goal, Moves, PLAIN_RING, Post, Scenario, first_frame,
+    Agent, FIRST_VERSION, Frame, Goal, LATEST_VERSION, Moves, PLAIN_RING, Post, Scenario,
+    first_frame,
 };
 use fixed_vec::{List, NoMemory, V2};
 use outside_io::{Gate, OpenGate};
@@ -115,7 +116,7 @@ fn two_agents(alloc: Global) -> Result<Scenario, NoMemory>
     agents.push(agent_at(V2 { x: 0, y: 0 }));
     agents.push(agent_at(V2 { x: 7, y: 7 }));
     Ok(Scenario::of(
-        FIRST_VERSION,
+        LATEST_VERSION,
         PLAIN_RING,
         0,
         agents,
