@@ -37,23 +37,18 @@ fn circle(alloc: Global, steps: u32) -> Result<String, Fail> {
     let mut text = format!(in alloc; "crowd,1\nsteps,{steps}\n")?;
     for number in 0..36 {
         let (x, y) = point(number);
+        let start = (x.wrapping_mul(3000), y.wrapping_mul(3000));
+        let pref = (x.wrapping_mul(-7), y.wrapping_mul(-7));
         let line = format!(in alloc;
             "agent,{},{},0,0,{},{},1500,500,15000,10,40,10\n",
-            3000 * x,
-            3000 * y,
-            -7 * x,
-            -7 * y
+            start.0, start.1, pref.0, pref.1
         )?;
         text.push_str(line.as_str())?;
     }
     for number in 0..36 {
         let (x, y) = point(number);
-        let line = format!(in alloc;
-            "goal,{},{number},{},{},450\n",
-            number % 4,
-            -3000 * x,
-            -3000 * y
-        )?;
+        let at = (x.wrapping_mul(-3000), y.wrapping_mul(-3000));
+        let line = format!(in alloc; "goal,{},{number},{},{},450\n", number % 4, at.0, at.1)?;
         text.push_str(line.as_str())?;
     }
     Ok(text)
