@@ -3,9 +3,6 @@ use Rattle.std.proofs.Common.{◌≡◌, ◌<◌, ◌^◌, ℕ, Bool, true, fals
 use Rattle.std.specs.Prelude.{min}
 use Rattle.std.proofs.lemmas.Int.{ints}
 use Rattle.std.proofs.lemmas.List.Elements.{All-map, All-weaker}
-use Rattle.exact_algebra.proofs.Ring.{quotes, equal}
-use Rattle.fixed_vec.specs.declared.vector.V2.{V2}
-use Rattle.fixed_vec.specs.Vector.{minus, square}
 use Rattle.fixed_vec.specs.HalfPlane.{Plane, drawn_of}
 use Rattle.crowd_data.specs.declared.agent.Agent.{Agent}
 use Rattle.crowd_data.specs.declared.frame.Body.{Body}
@@ -17,7 +14,8 @@ use Rattle.crowd_data.specs.Run.{body_at, crowd_of, no_body}
 use Rattle.crowd_data.proofs.Crowds.{agent_at-crowd_of, length-crowd_of, standing_build}
 use Rattle.crowd_data.proofs.Sight.{squared_gap-comm}
 use Rattle.pair_plane.proofs.Shares.{higher_sized, lower_sized}
-use Rattle.pair_plane.proofs.Sized.{Sized, drawn_sized}
+use Rattle.pair_plane.specs.Sized.{IsShareSized, Sized}
+use Rattle.pair_plane.proofs.Sized.{drawn_sized}
 use Rattle.agent_step.specs.Sight.{ArePresent, IsSeen}
 use Rattle.agent_step.proofs.Sight.{neighbours_seen}
 
@@ -79,16 +77,16 @@ module _ (agents : List Agent) (bodies : List Body) (present : ArePresent agents
     higher_pair = pair_of b a (moves-at other there) (moves-at who here) (omega (arith, seen.near, squared_gap-comm a.pos b.pos))
 
     -- drawn in, the share is at most 200,585 lengths off
-    share_sized : Sized (share_against (crowd_of agents bodies) who other) 200585
+    share_sized : IsShareSized (share_against (crowd_of agents bodies) who other)
     share_sized = either (ltb who other) _ _ (lower_sized _ _ _ _ _ lower_pair (moves-at other there).build.weight.0) (higher_sized _ _ _ _ _ higher_pair (moves-at who here).build.weight.0)
       where
-        either : (t : Bool) (x y : Plane) → Sized x 200584 → Sized y 200584 → Sized (drawn_of (cond t x y)) 200585
+        either : (t : Bool) (x y : Plane) → Sized x 200584 → Sized y 200584 → IsShareSized (drawn_of (cond t x y))
         either true x y h k = drawn_sized x 200584 h
         either false x y h k = drawn_sized y 200584 k
 
-  pub soft_sized : (who : ℕ) → who < length agents → All (λ plane. Sized plane 200585) (soft_planes (crowd_of agents bodies) who)
+  pub soft_sized : (who : ℕ) → who < length agents → All IsShareSized (soft_planes (crowd_of agents bodies) who)
   soft_sized who h =
-      All-map (λ plane. Sized plane 200585) (share_against (crowd_of agents bodies) who) (neighbours_of (crowd_of agents bodies) who)
-      (All-weaker (IsSeen (crowd_of agents bodies) who) (λ other. Sized (share_against (crowd_of agents bodies) who other) 200585)
+      All-map IsShareSized (share_against (crowd_of agents bodies) who) (neighbours_of (crowd_of agents bodies) who)
+      (All-weaker (IsSeen (crowd_of agents bodies) who) (λ other. IsShareSized (share_against (crowd_of agents bodies) who other))
       (λ other seen. share_sized who other h seen) (neighbours_of (crowd_of agents bodies) who)
       (neighbours_seen (crowd_of agents bodies) who (moves-at who h).build.range))

@@ -11,6 +11,7 @@ use Rattle.crowd_data.specs.Present.{IsPresent}
 use Rattle.crowd_data.specs.RingPlanes.{ring_planes}
 use Rattle.crowd_data.specs.Run.{Snapshot, crowd_of}
 use Rattle.crowd_data.specs.Scenario.{Parts}
+use Rattle.planar_program.specs.declared.relief.TheConstants.{GREATEST_RELIEF}
 use Rattle.agent_kdtree.specs.declared.tree.Tree.{Tree}
 use Rattle.agent_kdtree.specs.Stands.{StandsFor}
 use Rattle.agent_step.specs.declared.wall_blocks.WallBlocks.{WallBlocks}
@@ -47,4 +48,4 @@ pub record IsFrozen (scenario : Parts) (frame : Snapshot) (made : List (List Pla
 pub record KeepsLimits (most : ℕ) (vel : V2) (given : ℕ) : Type 0 where
   pub slow : IsVelocity vel
   pub speed : square vel ≤ℤ (pos most *ℤ pos most)
-  pub relief : given ≤ 262143
+  pub relief : given ≤ GREATEST_RELIEF

@@ -5,7 +5,7 @@ ghost use Rattle.crowd_data.specs.RingPlanes.{ring_planes_of};
 ghost use Rattle.crowd_data.specs.declared.agent.Agent.{Agent};
 ghost use Rattle.agent_step.specs.Frozen.{polygons_of};
 
-use crowd_data::{Agent, FINE_RING, Scenario};
+use crowd_data::{Agent, FINE_RING, GREATEST_SPEED, Scenario};
 use fixed_vec::{HalfPlane, List, NoMemory};
 use hard_plane::Ring;
 use std::alloc::Global;
@@ -38,7 +38,7 @@ impl Model for Polygons {
 // The half-planes between which a speed is kept, in order.
 fn polygon<const K: usize>(ring: &Ring<K>, speed: u32) -> [HalfPlane; K]
     requires some { 0 < K }
-    requires speed { speed ≤ 16384 }
+    requires speed { speed ≤ GREATEST_SPEED }
     ensures { result ≡ ring_planes_of ring.now.radius ring.now.points speed }
 {
     let mut planes = [ring.plane(0, speed); K];

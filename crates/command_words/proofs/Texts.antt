@@ -3,6 +3,7 @@ use Rattle.std.proofs.Common.{◌≡◌, ◌∙◌, ◌==◌, ◌⊎◌, ℕ, Bo
 use Rattle.std.specs.Str.{bytes_eq}
 use Rattle.std.specs.List.{list_any, list_all}
 use Rattle.std.proofs.lemmas.Slice.Eq.{bytes_eq-Decides}
+use Rattle.clap.proofs.WalkLemmas.{both}
 use Rattle.command_words.specs.Options.{Given, Known, Text, behind_dash, cut_at_equals, from_word, has_required, if_complete, has_more, if_more, is_flag, is_given, is_known, option_word, options_after, options_of, with_option}
 use Rattle.command_words.specs.Spelling.{EachOnce}
 
@@ -121,10 +122,10 @@ SoundWaits known words = (given final : List Given) (name : Text) → options_af
     → (value : Text) × (rest : List Text) × (more : List Given) × (words ≡ value ∷ rest) × (is_flag value ≡ false)
     × (final ≡ given ++ record { name = name; value = value } ∷ more) × SpellsTexts more rest × EachOnce known given (record { name = name; value = value } ∷ more)
 
-both : (a b : Bool) → (a && not b) ≡ true → (a ≡ true) × (b ≡ false)
-both true false e = (refl, refl)
-both true true e = absurd (true≢false (sym e))
-both false b e = absurd (true≢false (sym e))
+first_alone : (a b : Bool) → (a && not b) ≡ true → (a ≡ true) × (b ≡ false)
+first_alone true false e = (refl, refl)
+first_alone true true e = absurd (true≢false (sym e))
+first_alone false b e = absurd (true≢false (sym e))
 
 -- one more option, and what follows it
 with_sound : (known : List Known) (given final : List Given) (name value : Text) (words : List Text) → SoundIdle known words
@@ -137,7 +138,7 @@ with_sound known given final name value words sound e = go (is_known known name 
         → (more : List Given) × (final ≡ given ++ record { name = name; value = value } ∷ more) × SpellsTexts more words × EachOnce known given (record { name = name; value = value } ∷ more)
     go true is e =
         let (more, same, spells, once) = sound (given ++ record { name = name; value = value } ∷ []) final e in
-        let parts = both (is_known known name) (is_given given name) is in
+        let parts = first_alone (is_known known name) (is_given given name) is in
         (more, same ∙ append_assoc given (record { name = name; value = value } ∷ []) more, spells, (parts.0, parts.1, once))
     go false is e = absurd (some≢none final (sym e))
 
@@ -180,14 +181,10 @@ sound known (word ∷ words) = (λ given final e. idle given final (option_word 
 abbrev pub are_names : List Known → Bool
 are_names known = list_all (λ k. is_name k.name) known
 
-pub both_true : (a b : Bool) → (a && b) ≡ true → (a ≡ true) × (b ≡ true)
-both_true true b e = (refl, e)
-both_true false b e = absurd (true≢false (sym e))
-
 known_name : (known : List Known) (name : Text) → are_names known ≡ true → is_known known name ≡ true → is_name name ≡ true
 known_name [] name names e = absurd (true≢false (sym e))
 known_name (k ∷ ks) name names e =
-    let parts = both_true (is_name k.name) (are_names ks) names in
+    let parts = both (is_name k.name) (are_names ks) names in
     go (bytes_eq k.name name) refl e parts.0 (known_name ks name parts.1)
   where
     go : (b : Bool) → bytes_eq k.name name ≡ b → (b || is_known ks name) ≡ true → is_name k.name ≡ true → (is_known ks name ≡ true → is_name name ≡ true) → is_name name ≡ true

@@ -11,7 +11,8 @@ use Rattle.command_words.specs.Spelling.{EachOnce, SpellsAll, is_number}
 use Rattle.command_words.specs.declared.commands.Command.{Command}
 use Rattle.command_words.specs.declared.commands.Name.{Name}
 use Rattle.command_words.specs.declared.commands.Name.TheVariants as name
-use Rattle.command_words.proofs.Texts.{SpellsText, SpellsTexts, both_true, some≢none}
+use Rattle.clap.proofs.WalkLemmas.{both}
+use Rattle.command_words.proofs.Texts.{SpellsText, SpellsTexts, some≢none}
 
 -- ---- a number that was read
 
@@ -81,7 +82,7 @@ are_numbers given = list_all (λ g. is_number g.value) given
 
 read_at : (known : List Known) (values : Values) (name : Text) → are_read known values ≡ true → is_known known name ≡ true → number_or_none (values name) ≡ true
 read_at [] values name all e = absurd (true≢false (sym e))
-read_at (k ∷ ks) values name all e = go (bytes_eq k.name name) refl e (both_true _ _ all) (λ rest. read_at ks values name rest)
+read_at (k ∷ ks) values name all e = go (bytes_eq k.name name) refl e (both _ _ all) (λ rest. read_at ks values name rest)
   where
     go : (b : Bool) → bytes_eq k.name name ≡ b → (b || is_known ks name) ≡ true → (number_or_none (values k.name) ≡ true) × (are_read ks values ≡ true)
         → (are_read ks values ≡ true → is_known ks name ≡ true → number_or_none (values name) ≡ true) → number_or_none (values name) ≡ true
@@ -114,7 +115,7 @@ flag_no_number [] e = refl
 flag_no_number (b ∷ bs) e = go (b == 45) refl
   where
     digit : is_digit b ≡ true
-    digit = (both_true _ _ (both_true (nat_le 1 (length (b ∷ bs)) && nat_le (length (b ∷ bs)) 10) _ e).1).0
+    digit = (both _ _ (both (nat_le 1 (length (b ∷ bs)) && nat_le (length (b ∷ bs)) 10) _ e).1).0
 
     go : (p : Bool) → (b == 45) ≡ p → option_map_or has_more (cond p (Some bs) None) false ≡ false
     go true is = absurd (true≢false (sym digit ∙ ap is_digit (eqb-true b 45 is)))
@@ -123,7 +124,7 @@ flag_no_number (b ∷ bs) e = go (b == 45) refl
 pub with_numbers : (gs : List Given) (words : List Text) → SpellsTexts gs words → are_numbers gs ≡ true → SpellsAll gs words
 with_numbers [] words none all = none
 with_numbers (g ∷ gs) words (front, rest, is, spells, more) all =
-    let parts = both_true (is_number g.value) (are_numbers gs) all in
+    let parts = both (is_number g.value) (are_numbers gs) all in
     (front, rest, is, (parts.0, go spells), with_numbers gs rest more parts.1)
   where
     go : SpellsText g front → (front ≡ (codes "--" ++ g.name) ∷ g.value ∷ []) ⊎ (front ≡ (codes "--" ++ g.name ++ codes "=" ++ g.value) ∷ [])

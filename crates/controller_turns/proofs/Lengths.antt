@@ -25,13 +25,6 @@ within_pace way pace h =
     let e : (unsigned_abs way.x * unsigned_abs way.x + unsigned_abs way.y * unsigned_abs way.y) ≤ pace * pace = let g = subst (λ (z : ℤ). z ≤ℤ (pos pace *ℤ pos pace)) (square_sizes way) h in omega (arith, ints, g) in
     (root_le (unsigned_abs way.x) pace (omega (arith, e)), root_le (unsigned_abs way.y) pace (omega (arith, e)))
 
--- no coordinate is longer than the way
-pub coordinates_le : (way : V2) → (unsigned_abs way.x ≤ whole_length way) × (unsigned_abs way.y ≤ whole_length way)
-coordinates_le way =
-    let e = ap unsigned_abs (square_sizes way) in
-    let l = ceil_root_reaches (unsigned_abs (square way)) in
-    (root_le (unsigned_abs way.x) (whole_length way) (omega (arith, e, l)), root_le (unsigned_abs way.y) (whole_length way) (omega (arith, e, l)))
-
 root_some : (root n : ℕ) → n ≤ root * root → 0 < n → 0 < root
 root_some zero n h l = absurd (omega (arith, h, l))
 root_some (suc root) n h l = omega arith

@@ -7,5 +7,7 @@ pub mod Frames
 pub mod Sight
 pub mod Shares
 pub mod ScriptedPosts
+mod SoFar
 mod Examples
 pub mod GoalTables
+pub mod Controllers

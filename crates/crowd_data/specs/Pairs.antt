@@ -7,6 +7,7 @@ use Rattle.exact_algebra.specs.Numbers.{ceil, floor_root}
 use Rattle.fixed_vec.specs.declared.vector.V2.{V2}
 use Rattle.fixed_vec.specs.Vector.{cross, dot, minus, opposite, perp, square, times}
 use Rattle.fixed_vec.specs.HalfPlane.{Plane, whole_length}
+use Rattle.crowd_data.specs.declared.limits.TheConstants.{GREATEST_HORIZON, GREATEST_RADIUS}
 use Rattle.crowd_data.specs.declared.pair.Disc.{Disc}
 use Rattle.crowd_data.specs.Limits.{IsVelocity}
 use Rattle.crowd_data.specs.declared.pair.Region.{Region}
@@ -34,11 +35,11 @@ pub record IsPair (low high : Disc) (tau : ℕ) : Type 0 where
   pub low_vel : IsVelocity low.vel
   pub high_vel : IsVelocity high.vel
   pub some_low_radius : 1 ≤ low.radius
-  pub low_radius : low.radius ≤ 32768
+  pub low_radius : low.radius ≤ GREATEST_RADIUS
   pub some_high_radius : 1 ≤ high.radius
-  pub high_radius : high.radius ≤ 32768
+  pub high_radius : high.radius ≤ GREATEST_RADIUS
   pub some_tau : 1 ≤ tau
-  pub tau_limit : tau ≤ 4096
+  pub tau_limit : tau ≤ GREATEST_HORIZON
 
 -- the discs overlap; touching discs don't
 abbrev pub is_overlap : Disc → Disc → Bool

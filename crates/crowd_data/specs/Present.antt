@@ -6,10 +6,11 @@ use Rattle.crowd_data.specs.Limits.{IsVelocity, IsWithin}
 use Rattle.crowd_data.specs.Run.{Snapshot, body_at}
 use Rattle.crowd_data.specs.SafeSteps.{ClearFrame}
 use Rattle.crowd_data.specs.Scenario.{Parts}
+use Rattle.crowd_data.specs.declared.limits.TheConstants.{GREATEST_COORDINATE, GREATEST_SPEED}
 
 -- a body after so many steps: how far it can have come, and how fast it moves and wants to move
 pub record IsBody (number : ℕ) (body : Body) : Type 0 where
-  pub pos : IsWithin body.pos (4194304 + 16384 * number)
+  pub pos : IsWithin body.pos (GREATEST_COORDINATE + GREATEST_SPEED * number)
   pub vel : IsVelocity body.vel
   pub pref : IsVelocity body.pref
 

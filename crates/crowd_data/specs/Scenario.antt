@@ -7,6 +7,7 @@ use Rattle.crowd_data.specs.declared.post.ScriptPost.{ScriptPost}
 use Rattle.crowd_data.specs.declared.post.Goal.{Goal}
 use Rattle.crowd_data.specs.Limits.{IsAgent, IsGoal, IsRing, IsScriptPost, IsSegment, IsVersion, plain_ring}
 use Rattle.crowd_data.specs.Walls.{IsClear}
+use Rattle.crowd_data.specs.declared.limits.TheConstants.{MOST_AGENTS, MOST_POSTS, MOST_SEGMENTS, MOST_STEPS}
 
 -- what a scenario consists of
 pub record Parts : Type 0 where
@@ -30,10 +31,10 @@ pub record IsValid (s : Parts) : Type 0 where
   pub version : IsVersion s.version
   pub ring : IsRing s.ring
   pub plain : s.version ≡ 1 → HasPlainParts s.ring s.agents
-  pub steps : s.steps ≤ 100000
-  pub agent_count : length s.agents ≤ 10000
-  pub segment_count : length s.segments ≤ 2000
-  pub post_count : length s.posts ≤ 100000
+  pub steps : s.steps ≤ MOST_STEPS
+  pub agent_count : length s.agents ≤ MOST_AGENTS
+  pub segment_count : length s.segments ≤ MOST_SEGMENTS
+  pub post_count : length s.posts ≤ MOST_POSTS
   pub agents : All IsAgent s.agents
   pub segments : All IsSegment s.segments
   pub posts : All (IsScriptPost s.steps (length s.agents)) s.posts

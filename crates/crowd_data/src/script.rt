@@ -4,6 +4,7 @@ ghost use Rattle.crowd_data.specs.Scripts.{IsCursor};
 ghost use Rattle.crowd_data.specs.Run.{scripted_from};
 ghost use Rattle.crowd_data.specs.declared.post.ScriptPost.{ScriptPost};
 
+use crate::limits::{MOST_POSTS, MOST_STEPS};
 use crate::post::{Post, SCRIPT, ScriptPost};
 use fixed_vec::List;
 
@@ -11,8 +12,8 @@ use fixed_vec::List;
 /// place among all scripted posts, and answers the place of the first one of a later frame. `from` is that
 /// answer for the frame before, or 0 for frame 1: the frames of the posts never fall.
 pub fn push_script(into: &mut List<Post>, posts: &[ScriptPost], from: usize, number: u32) -> usize
-    requires few { length posts.now ≤ 100000 }
-    requires last { number < 100000 + 1 }
+    requires few { length posts.now ≤ MOST_POSTS }
+    requires last { number < MOST_STEPS + 1 }
     requires order { AllPairs (λ (p : ScriptPost) (q : ScriptPost). p.frame ≤ q.frame) posts.now }
     requires cursor { IsCursor posts.now number from }
     requires room { length posts.now - from ≤ into.old.spare }

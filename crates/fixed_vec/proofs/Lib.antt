@@ -5,3 +5,5 @@ pub mod Newton
 pub mod NearestWhole
 mod Examples
 pub mod Squares
+pub mod Lengths
+pub mod RoundedOnce

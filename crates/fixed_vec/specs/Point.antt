@@ -1,5 +1,5 @@
 -- Rational points, and their rounding to whole ones.
-use Rattle.std.specs.Prelude.{◌^◌, ◌<◌, ℤ, pos, ◌+ℤ◌, ◌*ℤ◌, ◌≤ℤ◌, ◌<ℤ◌, unsigned_abs}
+use Rattle.std.specs.Prelude.{ℕ, ◌^◌, ◌<◌, ℤ, pos, ◌+ℤ◌, ◌*ℤ◌, ◌≤ℤ◌, ◌<ℤ◌, unsigned_abs}
 use Rattle.exact_algebra.specs.Numbers.{floor}
 use Rattle.fixed_vec.specs.declared.vector.V2.{V2}
 use Rattle.fixed_vec.specs.HalfPlane.{Plane}
@@ -21,6 +21,10 @@ whole v = record { x = v.x; y = v.y; q = pos 1 }
 -- the point is in the half-plane: n . p is at least c
 abbrev pub IsIn : Plane → Rational → Type 0
 IsIn plane p = (plane.c *ℤ p.q) ≤ℤ (plane.n.x *ℤ p.x +ℤ plane.n.y *ℤ p.y)
+
+-- the point is no farther than k from the origin
+abbrev pub IsShort : ℕ → Rational → Type 0
+IsShort k p = (p.x *ℤ p.x +ℤ p.y *ℤ p.y) ≤ℤ (pos k *ℤ pos k *ℤ (p.q *ℤ p.q))
 
 -- the whole point nearest to p, halves upwards
 abbrev pub rounded_of : Rational → V2

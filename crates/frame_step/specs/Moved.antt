@@ -1,6 +1,7 @@
 -- The bodies of agents after a step, and those of the agents of a piece.
 use Rattle.std.specs.Prelude.{◌≡◌, ℕ, ◌+◌, ◌*◌, ◌/◌, ◌<◌, ◌≤◌, List, length}
 use Rattle.crowd_data.specs.declared.frame.Body.{Body}
+use Rattle.crowd_data.specs.declared.limits.TheConstants.{MOST_STEPS}
 use Rattle.crowd_data.specs.Limits.{IsVelocity}
 use Rattle.crowd_data.specs.Present.{IsPresent}
 use Rattle.crowd_data.specs.Run.{IsMoved, Snapshot, body_at, crowd_of}
@@ -16,7 +17,7 @@ pub record MayStep (state : FrozenState) (frame : Snapshot) : Type 0 where
   pub frame_is : state.frame ≡ frame
   pub present : IsPresent state.scenario frame
   pub below : frame.number < state.scenario.steps
-  pub few : state.scenario.steps ≤ 100000
+  pub few : state.scenario.steps ≤ MOST_STEPS
 
 -- an agent's body after the step from a frame whose posts are taken in, with a velocity within its limits
 pub record MovesTo (state : FrozenState) (who : ℕ) (body : Body) : Type 0 where

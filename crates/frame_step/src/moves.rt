@@ -8,13 +8,13 @@ ghost use Rattle.frame_step.specs.Moved.{AreAllMoved, IsPieceMoved, KeepsMoved, 
 
 use crate::limits::{AGENTS_PER_PIECE, FIRST_WORKER};
 use agent_step::{Advice, FrozenCrowd, Scratch, advise};
-use crowd_data::{Body, Frame, MOST_AGENTS};
+use crowd_data::{Body, Frame, MOST_AGENTS, MOST_STEPS};
 use fixed_vec::{List, plus};
 use outside_io::Gate;
 
 // The body after a step.
 fn moved(body: &Body, advice: Advice, number: u32) -> Body
-    requires few { number < 100000 }
+    requires few { number < MOST_STEPS }
     requires slow { IsVelocity advice.vel }
     requires limits { IsBody number body.now }
     ensures { result ≡ moved_body advice.vel advice.mark advice.relief body.now }

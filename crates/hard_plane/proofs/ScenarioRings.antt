@@ -2,12 +2,11 @@
 use Rattle.std.proofs.Common.{◌≡◌, ℕ, ◌-◌, ◌≤◌, Bool, true, false, cond, eqb, List, All, length, refl, sym, subst, arith, ℤ, pos, ◌<ℤ◌}
 use Rattle.std.proofs.lemmas.Int.{ints}
 use Rattle.fixed_vec.specs.declared.vector.V2.{V2}
-use Rattle.fixed_vec.specs.Point.{IsIn, Rational}
+use Rattle.fixed_vec.specs.Point.{IsIn, IsShort, Rational}
 use Rattle.crowd_data.specs.Limits.{fine_ring}
 use Rattle.crowd_data.specs.RingPlanes.{all_round, fine_quarter, plain_quarter, ring_planes, ring_points, ring_radius}
 use Rattle.hard_plane.specs.Ring.{is_round}
 use Rattle.hard_plane.proofs.RingPoints.{length-ring_planes_of, ring_planes_of-ring}
-use Rattle.hard_plane.proofs.ShortPoint.{IsShort}
 use Rattle.hard_plane.proofs.SpeedPolygon.{ring_short}
 
 -- what holds of both rings

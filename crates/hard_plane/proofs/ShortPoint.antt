@@ -7,11 +7,7 @@ use Rattle.exact_algebra.proofs.Order.{square_nonneg, product_nonneg, sum_nonneg
 use Rattle.exact_algebra.proofs.Rounding.{floor_le, floor_gt}
 use Rattle.exact_algebra.proofs.Sizes.{whole_root_le, product_positive}
 use Rattle.fixed_vec.specs.Vector.{square}
-use Rattle.fixed_vec.specs.Point.{Rational, rounded_of}
-
--- the point is no longer than k
-abbrev pub IsShort : ℕ → Rational → Type 0
-IsShort k v = (v.x *ℤ v.x +ℤ v.y *ℤ v.y) ≤ℤ (pos k *ℤ pos k *ℤ (v.q *ℤ v.q))
+use Rattle.fixed_vec.specs.Point.{IsShort, Rational, rounded_of}
 
 -- the whole number s is at most a half from x/q
 abbrev IsHalfOff : ℤ → ℤ → ℤ → Type 0

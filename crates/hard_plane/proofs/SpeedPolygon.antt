@@ -5,11 +5,10 @@ use Rattle.exact_algebra.proofs.Tests.{lt_true, eq_true, both_of}
 use Rattle.fixed_vec.specs.declared.vector.V2.{V2}
 use Rattle.fixed_vec.specs.Vector.{cross, square}
 use Rattle.fixed_vec.specs.HalfPlane.{Plane}
-use Rattle.fixed_vec.specs.Point.{Rational, IsIn}
+use Rattle.fixed_vec.specs.Point.{IsIn, IsShort, Rational}
 use Rattle.crowd_data.specs.RingPlanes.{edge_plane, edge_planes, ring_planes_of}
 use Rattle.hard_plane.specs.Ring.{is_at, all_at, turns_left, is_round}
 use Rattle.hard_plane.proofs.Sector.{edge_holds, sector_short, left_above, left_below}
-use Rattle.hard_plane.proofs.ShortPoint.{IsShort}
 
 -- positive where v lies to the left of p
 abbrev turn : V2 → Rational → ℤ

@@ -6,7 +6,7 @@ ghost use Rattle.fixed_vec.specs.Vector.{IsBelow, dot, square};
 ghost use Rattle.crowd_data.specs.RingPlanes.{ring_planes_of, ring_points, ring_radius};
 ghost use Rattle.hard_plane.specs.Ring.{is_ring, IsNeighbour};
 
-use crowd_data::{FINE_RING, PLAIN_RING};
+use crowd_data::{FINE_RING, GREATEST_SPEED, PLAIN_RING};
 use fixed_vec::{HalfPlane, Point, V2, minus, perp};
 
 // All whole points at distance 65 from the origin.
@@ -127,7 +127,7 @@ pub struct Ring<const K: usize> {
 
 // k times the inner product of an edge's normal with one of its points.
 fn scaled_offset(k: u32, normal: V2, m: V2) -> i64
-    requires factor { k ≤ 16384 }
+    requires factor { k ≤ GREATEST_SPEED }
     requires normal_small { IsBelow normal (2 ^ 12) }
     requires point_small { IsBelow m (2 ^ 12) }
     ensures value { result ≡ pos k *ℤ dot normal m }
@@ -198,7 +198,7 @@ impl<const K: usize> Ring<K> {
 
     // The offset of the edge's border at the distance k from the origin, rounded up.
     fn offset(&self, k: u32, normal: V2, m: V2) -> i128
-        requires factor { k ≤ 16384 }
+        requires factor { k ≤ GREATEST_SPEED }
         requires normal_small { IsBelow normal (2 ^ 12) }
         requires point_small { IsBelow m (2 ^ 12) }
         ensures { result ≡ ceil (pos k *ℤ dot normal m) self.now.radius }
@@ -210,7 +210,7 @@ impl<const K: usize> Ring<K> {
     /// its neighbour; there are K of them. The speed is at most 16,384 units per step.
     pub fn plane(&self, k: usize, speed: u32) -> HalfPlane
         requires place { k < K }
-        requires speed { speed ≤ 16384 }
+        requires speed { speed ≤ GREATEST_SPEED }
         ensures value { slice_get (ring_planes_of self.now.radius self.now.points speed) k ≡ Some result }
         ensures count { length (ring_planes_of self.now.radius self.now.points speed) ≡ K }
     {
@@ -222,7 +222,7 @@ impl<const K: usize> Ring<K> {
     /// The speed law. It answers nothing: its contract says that a point in all half-planes of a speed
     /// is near enough to be rounded, and that its rounding is no longer than the speed.
     pub fn speed_law(&self, speed: u32, point: &Point)
-        requires speed { speed ≤ 16384 }
+        requires speed { speed ≤ GREATEST_SPEED }
         requires inside { All (λ plane. IsIn plane point.now) (ring_planes_of self.now.radius self.now.points speed) }
         ensures across { pos (unsigned_abs point.now.x) ≤ℤ (point.now.q *ℤ pos (2 ^ 32)) }
         ensures along { pos (unsigned_abs point.now.y) ≤ℤ (point.now.q *ℤ pos (2 ^ 32)) }

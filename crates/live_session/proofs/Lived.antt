@@ -30,12 +30,13 @@ use Rattle.controller_turns.proofs.FrameTurns.{to_below}
 use Rattle.live_session.specs.declared.fault.LiveFault.{LiveFault}
 use Rattle.live_session.specs.declared.fault.LiveFault.TheVariants.{WriteFault}
 use Rattle.live_session.specs.declared.steered.Steered.{Steered}
-use Rattle.live_session.specs.LiveText.{AreLiveLists, IsLiveList, IsLiveText, SinkState, TurnsToTheEnd, WroteLive, WroteLivePart, joined}
+use Rattle.outside_io.specs.Sinks.{SinkState}
+use Rattle.live_session.specs.LiveText.{AreLiveLists, IsLiveList, IsLiveText, TurnsToTheEnd, WroteLive, WroteLivePart, joined}
 use Rattle.live_session.specs.Running.{IsRunning, IsTaking, lists_of, step_to, text_so_far}
 use Rattle.live_session.specs.Session.{IsClosing}
 use Rattle.live_session.specs.Steering.{AreLate, IsLate, IsSteered, Stands}
 use Rattle.live_session.proofs.Rows.{some_item}
-use Rattle.live_session.proofs.Standing.{controllers_few}
+use Rattle.crowd_data.proofs.Controllers.{controllers_few}
 use Rattle.live_session.proofs.Taken.{joined-lists_of, taken_more}
 use Rattle.live_session.proofs.Texts.{follows, is_transcript, whole_text}
 use Rattle.live_session.proofs.Written.{part_of, rose_later}

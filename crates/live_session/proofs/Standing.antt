@@ -1,13 +1,10 @@
 -- What is known of a controller as the run goes on.
 use Rattle.std.proofs.Common.{◌≡◌, ◌∙◌, ◌+◌, ◌*◌, ◌<◌, ◌≤◌, ℕ, List, [], ◌∷◌, ◌++◌, length, slice_index_or, refl, ap, sym, subst, arith, mul-le-mul, Option, Some, None, Result, Ok, MatchOption, Bool, true, false, true≢false, MatchBool}
 use Rattle.std.specs.Prelude.{IfOk, IfSome}
-use Rattle.std.specs.List.{All}
-use Rattle.std.proofs.lemmas.List.Elements.{All-head, All-tail}
 use Rattle.std.proofs.lemmas.List.FromFn.{get_or-map-range_with_len, length-map-range_with_len}
 use Rattle.logbook.specs.Pages.{Book}
 use Rattle.fixed_vec.specs.declared.list.NoMemory.{NoMemory}
 use Rattle.crowd_data.specs.declared.post.Goal.{Goal}
-use Rattle.crowd_data.specs.Limits.{IsGoal}
 use Rattle.crowd_data.specs.Present.{IsPresent}
 use Rattle.crowd_data.specs.Run.{Snapshot, start_of}
 use Rattle.crowd_data.specs.Scenario.{IsValid, Parts, controllers_of}
@@ -164,13 +161,6 @@ module _ (box : BoxState) (writer : FrameWriter) (course : Course) (number turns
       )
 
 -- ---- all posters
-
-pub controllers_few : (agents : ℕ) (goals : List Goal) → All (IsGoal agents) goals → controllers_of goals ≤ 16
-controllers_few agents [] all = omega arith
-controllers_few agents (goal ∷ rest) all =
-    let first = (All-head (IsGoal agents) goal rest all).controller in
-    let others = controllers_few agents rest (All-tail (IsGoal agents) goal rest all) in
-    omega arith
 
 pub length-first_posters : (box : BoxState) (scenario : Parts) → length (first_posters box scenario) ≡ controllers_of scenario.goals
 length-first_posters box scenario = length-map-range_with_len (poster_of box scenario) 0 (controllers_of scenario.goals)

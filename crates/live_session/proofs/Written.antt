@@ -17,7 +17,8 @@ use Rattle.published_frames.specs.declared.writer.FrameWriter.{FrameWriter}
 use Rattle.published_frames.specs.History.{AreInRange, IsHistory, last_of}
 use Rattle.published_frames.specs.Names.{writer_history, writer_source}
 use Rattle.published_frames.proofs.Histories.{continues_more, last_of-append}
-use Rattle.live_session.specs.LiveText.{AreLiveLists, IsLiveList, SinkState, WroteLivePart}
+use Rattle.outside_io.specs.Sinks.{SinkState}
+use Rattle.live_session.specs.LiveText.{AreLiveLists, IsLiveList, WroteLivePart}
 use Rattle.live_session.specs.Running.{IsRunning, lists_of, step_to, text_so_far}
 use Rattle.live_session.specs.declared.fault.LiveFault.{LiveFault}
 use Rattle.live_session.specs.declared.fault.LiveFault.TheVariants.{WriteFault, NoMemory}

@@ -1,8 +1,8 @@
 -- The text of a live run: what posts may stand in it, and what it is at a fault.
 use Rattle.std.specs.Prelude.{◌≡◌, ℕ, ◌+◌, ◌<◌, ◌≤◌, ◌⊎◌, List, [], ◌∷◌, ◌++◌, length, All}
-use Rattle.std.specs.declared.option.Option.{Option}
 use Rattle.std.specs.Io.KnownBytes.{Appends}
 use Rattle.outside_io.specs.Causes.{AppendsPrefix, Rose}
+use Rattle.outside_io.specs.Sinks.{SinkState}
 use Rattle.crowd_data.specs.declared.post.Post.{Post}
 use Rattle.crowd_data.specs.Run.{IsRun, Snapshot, script_of}
 use Rattle.crowd_data.specs.Scenario.{Parts, controllers_of}
@@ -53,14 +53,6 @@ pub record IsLiveTextSoFar (scenario : Parts) (text : List ℕ) : Type 0 where
   pub transcript : IsTranscript scenario lists text
   pub count : length lists ≤ scenario.steps
   pub posts : AreLiveLists scenario 1 lists
-
--- what a sink tells: the bytes held, and the faults
-pub record SinkState : Type 0 where
-  pub held : Option (List ℕ)
-  pub faults : ℕ
-
-abbrev pub sink_state : Option (List ℕ) → ℕ → SinkState
-sink_state held faults = record { held = held; faults = faults }
 
 -- a live run was written to its end
 pub record WroteLive (scenario : Parts) (old new : SinkState) : Type 0 where

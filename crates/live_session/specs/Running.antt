@@ -14,7 +14,8 @@ use Rattle.published_frames.specs.History.{IsHistory, last_of}
 use Rattle.published_frames.specs.Names.{writer_history, writer_source}
 use Rattle.published_frames.specs.Taken.{posts_of}
 use Rattle.controller_turns.specs.Turns.{frames_of}
-use Rattle.live_session.specs.LiveText.{AreLiveLists, SinkState}
+use Rattle.outside_io.specs.Sinks.{SinkState}
+use Rattle.live_session.specs.LiveText.{AreLiveLists}
 
 -- the step that led to this frame with these posts
 abbrev pub step_to : Snapshot → List Post → Step

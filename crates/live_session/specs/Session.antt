@@ -12,7 +12,7 @@ use Rattle.published_frames.specs.declared.reader.FrameReader.{FrameReader}
 use Rattle.published_frames.specs.declared.writer.FrameWriter.{FrameWriter}
 use Rattle.published_frames.specs.Names.{reader_source, writer_history, writer_source}
 use Rattle.live_session.specs.declared.steered.Steered.{Steered}
-use Rattle.live_session.specs.LiveText.{SinkState}
+use Rattle.outside_io.specs.Sinks.{SinkState}
 use Rattle.live_session.specs.Running.{IsRunning, IsTaking}
 use Rattle.live_session.specs.Steering.{AreLate, first_posters}
 

@@ -4,7 +4,8 @@ ghost use Rattle.published_frames.specs.declared.reader.FrameReader.{FrameReader
 ghost use Rattle.published_frames.specs.History.{StartsWith};
 ghost use Rattle.published_frames.specs.Names.{reader_seen, reader_source, writer_history, writer_source};
 ghost use Rattle.post_box.specs.Ends.{IsTakerOf};
-ghost use Rattle.live_session.specs.LiveText.{WroteLive, WroteLivePart, sink_state};
+ghost use Rattle.outside_io.specs.Sinks.{sink_state};
+ghost use Rattle.live_session.specs.LiveText.{WroteLive, WroteLivePart};
 ghost use Rattle.live_session.specs.Session.{IsClosing};
 
 use crate::desk::Desk;

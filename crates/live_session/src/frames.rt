@@ -2,7 +2,8 @@
 ghost use Rattle.std.specs.Prelude.{◌≡◌, ◌+◌, ◌≤◌, ◌<◌, [], All, IfErr, IfOk, OnOk, length};
 ghost use Rattle.crowd_data.specs.Scenario.{controllers_of};
 ghost use Rattle.published_frames.specs.Names.{writer_history, writer_source};
-ghost use Rattle.live_session.specs.LiveText.{WroteLivePart, sink_state};
+ghost use Rattle.outside_io.specs.Sinks.{sink_state};
+ghost use Rattle.live_session.specs.LiveText.{WroteLivePart};
 ghost use Rattle.live_session.specs.Session.{IsClosing, IsOpen, IsUnderWay};
 ghost use Rattle.live_session.specs.Steering.{AreSteering};
 

@@ -8,7 +8,8 @@ ghost use Rattle.frame_text.specs.Transcript.{frame_text, scenario_text};
 ghost use Rattle.published_frames.specs.declared.counts.TheConstants.{CONTROLLERS};
 ghost use Rattle.published_frames.specs.declared.reader.FrameReader.{FrameReader};
 ghost use Rattle.published_frames.specs.Names.{reader_source, writer_history, writer_source};
-ghost use Rattle.live_session.specs.LiveText.{WroteLive, WroteLivePart, sink_state};
+ghost use Rattle.outside_io.specs.Sinks.{sink_state};
+ghost use Rattle.live_session.specs.LiveText.{WroteLive, WroteLivePart};
 ghost use Rattle.live_session.specs.Running.{IsRunning};
 ghost use Rattle.live_session.specs.Steering.{most_posts};
 

@@ -1,7 +1,8 @@
 // A live run with its threads.
 ghost use Rattle.std.specs.Prelude.{◌≡◌, length, MatchResult};
 ghost use Rattle.published_frames.specs.Names.{writer_source};
-ghost use Rattle.live_session.specs.LiveText.{WroteLivePart, sink_state};
+ghost use Rattle.outside_io.specs.Sinks.{sink_state};
+ghost use Rattle.live_session.specs.LiveText.{WroteLivePart};
 ghost use Rattle.live_session.specs.Session.{IsClosing, IsOpen};
 
 use crate::desk::Desk;

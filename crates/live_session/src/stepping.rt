@@ -5,7 +5,8 @@ ghost use Rattle.crowd_data.specs.Run.{IsNext, snapshot_of, start_of};
 ghost use Rattle.frame_text.specs.Transcript.{frame_text};
 ghost use Rattle.published_frames.specs.History.{AreInRange, last_of};
 ghost use Rattle.published_frames.specs.Names.{writer_history, writer_source};
-ghost use Rattle.live_session.specs.LiveText.{IsLiveList, WroteLivePart, sink_state};
+ghost use Rattle.outside_io.specs.Sinks.{sink_state};
+ghost use Rattle.live_session.specs.LiveText.{IsLiveList, WroteLivePart};
 ghost use Rattle.live_session.specs.Running.{IsRunning, step_to};
 
 use crate::desk::Desk;

@@ -4,6 +4,7 @@ use Rattle.std.specs.declared.option.Option.{Option}
 use Rattle.std.specs.Io.KnownBytes.{Appends, IsAtEnd, Keeps}
 use Rattle.crowd_data.specs.Scenario.{Parts}
 use Rattle.outside_io.specs.Causes.{AppendsPrefix, Rose, Takes, TakesAtMost, Wrote}
+use Rattle.outside_io.specs.Sinks.{SinkState}
 use Rattle.command_words.specs.declared.commands.Command.{Command}
 use Rattle.orca_cli.specs.Output.{IsCutTextFor, IsFor, IsRefusedBy, IsTextFor}
 use Rattle.orca_cli.specs.Status.{input_limit}
@@ -42,13 +43,8 @@ abbrev pub HasNone : Bool → Input → Input → Status → Type 0
 HasNone true old new status = IsInputFault old new status
 HasNone false old new status = (status ≡ NoMemory) × IsSame old new
 
--- what a sink tells: the bytes held, and the faults
-pub record Output : Type 0 where
-  pub held : Option (List ℕ)
-  pub faults : ℕ
-
 -- what was written where each text of some kind would do
-abbrev pub WroteOne : (List ℕ → Type 0) → Output → Output → Status → Type 0
+abbrev pub WroteOne : (List ℕ → Type 0) → SinkState → SinkState → Status → Type 0
 WroteOne IsText old new Done = (text : List ℕ) × IsText text × Appends old.held new.held text
 WroteOne IsText old new WriteFault = (text : List ℕ) × IsText text × AppendsPrefix old.held new.held text × Rose old.faults new.faults
 WroteOne IsText old new NoMemory = Keeps old.held new.held × (new.faults ≡ old.faults)
@@ -59,7 +55,7 @@ WroteOne IsText old new TooLong = ⊥
 WroteOne IsText old new (Refused index cause) = ⊥
 
 -- what was written of a run with controllers: its whole text, or a prefix of one so far
-abbrev pub WroteLiveFor : Command → Parts → Output → Output → Status → Type 0
+abbrev pub WroteLiveFor : Command → Parts → SinkState → SinkState → Status → Type 0
 WroteLiveFor command scenario old new Done = (text : List ℕ) × IsTextFor command scenario text × Appends old.held new.held text
 WroteLiveFor command scenario old new WriteFault = (text : List ℕ) × IsCutTextFor command scenario text × AppendsPrefix old.held new.held text × Rose old.faults new.faults
 WroteLiveFor command scenario old new NoMemoryInRun = (text : List ℕ) × IsCutTextFor command scenario text × AppendsPrefix old.held new.held text

@@ -10,7 +10,7 @@ ghost use Rattle.scenario_read.specs.Generator.{generated};
 ghost use Rattle.orca_cli.specs.declared.status.Status.TheVariants.{NoMemory};
 
 use crate::status::Status;
-use command_words::Command;
+use command_words::{Command, GREATEST_SAMPLE, MOST_AGENTS, MOST_STEPS};
 use crowd_data::Scenario;
 use outside_io::{ReadAllFault, Source, read_all};
 use scenario_read::{ScenarioFault, generate, read_scenario};
@@ -44,10 +44,10 @@ fn generate_scenario(
     agents: u32,
     steps: u32,
 ) -> Result<Scenario, Status>
-    requires number { number ≤ 65535 }
+    requires number { number ≤ GREATEST_SAMPLE }
     requires some_agents { 1 ≤ agents }
-    requires agents { agents ≤ 10000 }
-    requires steps { steps ≤ 100000 }
+    requires agents { agents ≤ MOST_AGENTS }
+    requires steps { steps ≤ MOST_STEPS }
     ensures made { IfOk result (λ s. s ≡ generated number agents steps) }
     ensures fault { IfErr result (λ status. status ≡ NoMemory) }
 {

@@ -12,7 +12,7 @@ use Rattle.crowd_data.specs.declared.pair.Disc.{Disc}
 use Rattle.crowd_data.specs.declared.pair.Region.TheVariants.{Left, Right}
 use Rattle.crowd_data.specs.Pairs.{IsPair, combined_radius, leg_length, leg_normal, relative_position, relative_in}
 use Rattle.pair_plane.proofs.Regions.{NoOverlap}
-use Rattle.pair_plane.proofs.Sized.{Sized}
+use Rattle.pair_plane.specs.Sized.{Sized}
 
 -- a leg's normal for any length
 abbrev pub turned : V2 → ℤ → ℤ → V2

@@ -12,10 +12,12 @@ use Rattle.crowd_data.specs.declared.pair.Region.TheVariants.{Arc, Overlap}
 use Rattle.crowd_data.specs.Pairs.{IsPair, from_cutoff, held_off, relative_position, overlap_normal, region_of, relative_in, relative_plane, relative_velocity}
 use Rattle.crowd_data.proofs.PairNormals.{overlap_normal-nonzero}
 use Rattle.pair_plane.proofs.Legs.{left_sized, right_sized}
-use Rattle.pair_plane.proofs.Lengths.{dot_le, length_le, square_le}
+use Rattle.fixed_vec.proofs.Lengths.{length_le}
+use Rattle.pair_plane.proofs.Lengths.{dot_le, square_le}
 use Rattle.pair_plane.proofs.Parts.{ceil_abs}
 use Rattle.pair_plane.proofs.Regions.{region_cases}
-use Rattle.pair_plane.proofs.Sized.{Sized, fits_sized}
+use Rattle.pair_plane.specs.Sized.{Sized}
+use Rattle.pair_plane.proofs.Sized.{fits_sized}
 use Rattle.pair_plane.proofs.Sizes.{cutoff_small, offset_small, velocity_within}
 
 -- the border of the disc of the combined radius is as far off as the offset and the radius together

@@ -12,7 +12,8 @@ use Rattle.crowd_data.specs.Pairs.{IsPair, higher_share, lack, lower_share, part
 use Rattle.pair_plane.proofs.Lengths.{dot_le, square_le}
 use Rattle.pair_plane.proofs.Parts.{part_abs, rest_abs}
 use Rattle.pair_plane.proofs.RelativePlanes.{relative_sized}
-use Rattle.pair_plane.proofs.Sized.{Sized, length_fits}
+use Rattle.pair_plane.specs.Sized.{Sized}
+use Rattle.pair_plane.proofs.Sized.{length_fits}
 use Rattle.pair_plane.proofs.Sizes.{velocity_within}
 
 -- what is lacking

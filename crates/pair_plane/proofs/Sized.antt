@@ -4,13 +4,8 @@ use Rattle.std.proofs.lemmas.Int.{ints}
 use Rattle.fixed_vec.specs.declared.vector.V2.{V2}
 use Rattle.fixed_vec.specs.Vector.{square}
 use Rattle.fixed_vec.specs.HalfPlane.{FitsPlane, Plane, drawn_of, relieved_of, whole_length}
-use Rattle.pair_plane.proofs.Lengths.{coordinates_le, length_le}
-
--- the offset is at most k lengths of the normal, which is as a half-plane's has to be
-pub record Sized (plane : Plane) (k : ℕ) : Type 0 where
-  pub nonzero : pos 0 <ℤ square plane.n
-  pub normal : square plane.n <ℤ pos (2 ^ 64)
-  pub offset : unsigned_abs plane.c ≤ k * whole_length plane.n
+use Rattle.fixed_vec.proofs.Lengths.{coordinates_le, length_le}
+use Rattle.pair_plane.specs.Sized.{Sized}
 
 -- such a normal is at most 2^32 long
 pub length_fits : (n : V2) → square n <ℤ pos (2 ^ 64) → whole_length n ≤ 2 ^ 32

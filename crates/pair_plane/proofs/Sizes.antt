@@ -6,7 +6,7 @@ use Rattle.fixed_vec.specs.Vector.{IsBelow}
 use Rattle.crowd_data.specs.declared.pair.Disc.{Disc}
 use Rattle.crowd_data.specs.Limits.{IsWithin}
 use Rattle.crowd_data.specs.Pairs.{IsPair, from_cutoff, relative_position, relative_velocity}
-use Rattle.pair_plane.proofs.Lengths.{coordinates_lt}
+use Rattle.fixed_vec.proofs.Lengths.{coordinates_lt}
 
 pub offset_small : (low high : Disc) (tau : ℕ) → IsPair low high tau → IsBelow (relative_position low high) (2 ^ 16)
 offset_small low high tau h = coordinates_lt (relative_position low high) (2 ^ 16) h.near

@@ -1,10 +1,10 @@
 // Two discs, as one moves against the other.
-ghost use Rattle.std.specs.Prelude.{◌≡◌, ◌^◌, ◌<◌, ◌≤◌, pos, ◌-ℤ◌, ◌*ℤ◌, unsigned_abs};
+ghost use Rattle.std.specs.Prelude.{◌≡◌, ◌*◌, ◌^◌, ◌<◌, ◌≤◌, pos, ◌-ℤ◌, ◌*ℤ◌, unsigned_abs};
 ghost use Rattle.fixed_vec.specs.Vector.{IsBelow};
 ghost use Rattle.crowd_data.specs.Limits.{IsWithin};
 ghost use Rattle.crowd_data.specs.Pairs.{IsPair, from_cutoff as from_cutoff_of, combined_radius as combined_radius_of, relative_position as relative_position_of, relative_velocity as relative_velocity_of};
 
-use crowd_data::Disc;
+use crowd_data::{Disc, GREATEST_HORIZON, GREATEST_SPEED};
 use fixed_vec::V2;
 
 /// Two discs and the horizon in steps for which they look out, within the limits of a pair.
@@ -18,8 +18,8 @@ pub struct Pair {
 
 // A coordinate of the way of `horizon` steps with a velocity, seen from an offset.
 fn way_past(horizon: i64, velocity: i64, relative_position: i64) -> i64
-    requires horizon { unsigned_abs horizon ≤ 4096 }
-    requires velocity { unsigned_abs velocity ≤ 32768 }
+    requires horizon { unsigned_abs horizon ≤ GREATEST_HORIZON }
+    requires velocity { unsigned_abs velocity ≤ 2 * GREATEST_SPEED }
     requires relative_position { unsigned_abs relative_position < 2 ^ 16 }
     ensures { result ≡ horizon *ℤ velocity -ℤ relative_position }
 {

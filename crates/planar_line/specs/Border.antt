@@ -1,14 +1,18 @@
 -- Points on the border of a half-plane.
-use Rattle.std.specs.Prelude.{◌≡◌, ◌≤◌, ℤ, ◌+ℤ◌, ◌-ℤ◌, ◌*ℤ◌, ◌≤ℤ◌, unsigned_abs}
+use Rattle.std.specs.Prelude.{ℕ, ◌≡◌, ◌≤◌, ℤ, ◌+ℤ◌, ◌-ℤ◌, ◌*ℤ◌, ◌≤ℤ◌, unsigned_abs}
 use Rattle.fixed_vec.specs.declared.vector.V2.{V2}
 use Rattle.fixed_vec.specs.Vector.{cross, square}
 use Rattle.fixed_vec.specs.HalfPlane.{Plane}
 use Rattle.fixed_vec.specs.Point.{Rational, IsPoint}
 
--- a whole point that an agent may prefer as its velocity: its coordinates are at most 16,384 in size
+-- the greatest size of a preferred velocity's coordinates
+abbrev pub greatest_preference : ℕ
+greatest_preference = 16384
+
+-- a whole point that an agent may prefer as its velocity
 pub record IsPreference (v : V2) : Type 0 where
-  pub across : unsigned_abs v.x ≤ 16384
-  pub along : unsigned_abs v.y ≤ 16384
+  pub across : unsigned_abs v.x ≤ greatest_preference
+  pub along : unsigned_abs v.y ≤ greatest_preference
 
 -- p is a point of the border of the half-plane
 pub record IsOnBorder (plane : Plane) (p : Rational) : Type 0 where

@@ -12,7 +12,7 @@ use Rattle.crowd_data.specs.declared.agent.Agent.{Agent}
 use Rattle.crowd_data.specs.Advice.{GivesWay, StandsStill, hard_planes, share_against, soft_planes}
 use Rattle.crowd_data.specs.RingPlanes.{ring_planes}
 use Rattle.crowd_data.specs.Run.{crowd_of}
-use Rattle.pair_plane.proofs.Sized.{Sized}
+use Rattle.pair_plane.specs.Sized.{IsShareSized}
 use Rattle.agent_step.specs.Among.{AdvisedAmong}
 use Rattle.agent_step.specs.Frozen.{KeepsLimits, agents_in}
 use Rattle.agent_step.specs.Sight.{IsSeen}
@@ -63,7 +63,7 @@ free_advice-requires-clause-bounds c =
     let who = c.args.who in
     let seen : crowd_of c.agents.result.now c.bodies.result.now ≡ crowd = (λ i. crowd_of (c.agents.ensures i) (c.bodies.ensures.value i)) in
     let rest = shares_behind crowd _ who c.args.near.now c.fill_walls.new.planes.items c.items-walls.result.now c.items.result.now seen c.requires.near c.items-walls.ensures (c.items.ensures ∙ c.push_shares.ensures.items) in
-    shares_stand (length c.items-walls.result.now) c.items.result.now (subst (All (λ plane. Sized plane 200585)) (sym rest) (soft_sized agents bodies c.bodies.ensures.present who c.requires.who))
+    shares_stand (length c.items-walls.result.now) c.items.result.now (subst (All IsShareSized) (sym rest) (soft_sized agents bodies c.bodies.ensures.present who c.requires.who))
 
 pub free_advice-requires-clause-relieved : goal.free_advice-requires-clause-relieved
 free_advice-requires-clause-relieved c =
@@ -73,7 +73,7 @@ free_advice-requires-clause-relieved c =
     let who = c.args.who in
     let seen : crowd_of c.agents.result.now c.bodies.result.now ≡ crowd = (λ i. crowd_of (c.agents.ensures i) (c.bodies.ensures.value i)) in
     let rest = shares_behind crowd _ who c.args.near.now c.fill_walls.new.planes.items c.items-walls.result.now c.items.result.now seen c.requires.near c.items-walls.ensures (c.items.ensures ∙ c.push_shares.ensures.items) in
-    shares_keep (length c.items-walls.result.now) c.items.result.now (subst (All (λ plane. Sized plane 200585)) (sym rest) (soft_sized agents bodies c.bodies.ensures.present who c.requires.who))
+    shares_keep (length c.items-walls.result.now) c.items.result.now (subst (All IsShareSized) (sym rest) (soft_sized agents bodies c.bodies.ensures.present who c.requires.who))
 
 pub free_advice-requires-clause-enough : goal.free_advice-requires-clause-enough
 free_advice-requires-clause-enough c = λ none.

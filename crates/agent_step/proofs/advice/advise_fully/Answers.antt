@@ -9,7 +9,7 @@ use Rattle.hard_plane.proofs.ScenarioRings.{length-ring_planes_le}
 use Rattle.crowd_data.specs.declared.agent.Agent.{Agent}
 use Rattle.crowd_data.specs.Advice.{agent_at, hard_planes, soft_planes, wall_planes}
 use Rattle.crowd_data.specs.Run.{crowd_of}
-use Rattle.pair_plane.proofs.Sized.{Sized}
+use Rattle.pair_plane.specs.Sized.{IsShareSized}
 use Rattle.planar_program.specs.Met.{IsMet}
 use Rattle.agent_step.specs.Among.{AdvisedAmong}
 use Rattle.agent_step.specs.Frozen.{KeepsLimits, agents_in}
@@ -66,7 +66,7 @@ advise_among-requires-clause-bounds c =
     let is = listed scenario crowd _ who c.agent-agent.result c.args.near.now c.items.result.now c.fill.new.planes.items c.items-hard.result.now
     seen c.agent-agent.ensures.value c.requires.near (hard_from c.args.crowd.now.scenario c.walls.result.now.segments.items crowd who c.agent-agent.result c.polygon.result.now c.fill.new.planes.items c.polygon.ensures c.agent-agent.ensures.value c.fill.ensures.items) c.items-hard.ensures (c.items.ensures ∙ c.push_shares.ensures.items) in
     shares_keep (length c.items-hard.result.now) c.items.result.now
-    (subst (All (λ plane. Sized plane 200585)) (sym (soft_are scenario crowd who (length c.items-hard.result.now) c.items.result.now is))
+    (subst (All IsShareSized) (sym (soft_are scenario crowd who (length c.items-hard.result.now) c.items.result.now is))
     (soft_sized agents bodies c.bodies.ensures.present who c.requires.who))
 
 pub advise_among-requires-clause-enough : goal.advise_among-requires-clause-enough

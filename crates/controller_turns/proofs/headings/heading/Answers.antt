@@ -2,7 +2,8 @@ use Rattle.std.proofs.Common.{◌∙◌, ◌^◌, arith, sym, subst}
 use Rattle.exact_algebra.proofs.Tests.{le_false, le_true}
 use Rattle.fixed_vec.specs.declared.vector.V2.{V2}
 use Rattle.fixed_vec.specs.Vector.{IsBelow}
-use Rattle.controller_turns.proofs.Lengths.{coordinates_le, length_small, length_some, read_coordinate, way_small, within_pace}
+use Rattle.fixed_vec.proofs.Lengths.{coordinates_le}
+use Rattle.controller_turns.proofs.Lengths.{length_small, length_some, read_coordinate, way_small, within_pace}
 use Rattle.controller_turns.proofs.headings.heading.Goals as goal
 
 pub returns-then-is_reached-clause-velocity : goal.returns-then-is_reached-clause-velocity

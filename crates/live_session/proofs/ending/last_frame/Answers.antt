@@ -11,7 +11,7 @@ use Rattle.published_frames.specs.declared.reader.FrameReader.{FrameReader}
 use Rattle.published_frames.specs.History.{StartsWith}
 use Rattle.published_frames.specs.Names.{reader_seen, reader_source, writer_history, writer_source}
 use Rattle.live_session.specs.declared.steered.Steered.{Steered}
-use Rattle.live_session.specs.LiveText.{sink_state}
+use Rattle.outside_io.specs.Sinks.{sink_state}
 use Rattle.live_session.proofs.Lived.{IsLast, left_listed, lived, posters_of_box, readers_of, running_cut_off}
 use Rattle.live_session.proofs.Standing.{controllers_few}
 use Rattle.live_session.proofs.Written.{ended_here}

@@ -1,5 +1,5 @@
 use Rattle.published_frames.specs.Names.{writer_history, writer_source}
-use Rattle.live_session.specs.LiveText.{sink_state}
+use Rattle.outside_io.specs.Sinks.{sink_state}
 use Rattle.live_session.proofs.Written.{ended_here}
 use Rattle.live_session.proofs.frames.drive.Goals as goal
 

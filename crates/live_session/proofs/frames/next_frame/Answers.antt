@@ -4,9 +4,10 @@ use Rattle.fixed_vec.specs.Held.{Held}
 use Rattle.crowd_data.specs.declared.post.Post.{Post}
 use Rattle.crowd_data.specs.Scenario.{Parts}
 use Rattle.crowd_data.specs.Scripts.{IsCursor}
-use Rattle.live_session.specs.LiveText.{sink_state}
+use Rattle.outside_io.specs.Sinks.{sink_state}
 use Rattle.live_session.specs.Running.{step_to}
-use Rattle.live_session.proofs.Standing.{controllers_few, steering_next}
+use Rattle.crowd_data.proofs.Controllers.{controllers_few}
+use Rattle.live_session.proofs.Standing.{steering_next}
 use Rattle.live_session.proofs.Taken.{gathered, taking_next}
 use Rattle.live_session.proofs.Written.{ended_here}
 use Rattle.live_session.proofs.frames.next_frame.Goals as goal

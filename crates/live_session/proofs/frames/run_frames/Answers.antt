@@ -1,4 +1,4 @@
-use Rattle.live_session.specs.LiveText.{sink_state}
+use Rattle.outside_io.specs.Sinks.{sink_state}
 use Rattle.live_session.proofs.Written.{ended_here}
 use Rattle.live_session.proofs.frames.run_frames.Goals as goal
 

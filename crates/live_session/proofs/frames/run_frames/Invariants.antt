@@ -1,7 +1,7 @@
 use Rattle.std.proofs.Common.{◌≡◌, length}
 use Rattle.crowd_data.specs.Scenario.{controllers_of}
 use Rattle.published_frames.specs.Names.{writer_history, writer_source}
-use Rattle.live_session.specs.LiveText.{sink_state}
+use Rattle.outside_io.specs.Sinks.{sink_state}
 use Rattle.live_session.specs.Session.{IsUnderWay}
 use Rattle.live_session.specs.Steering.{AreSteering}
 use Rattle.live_session.proofs.frames.run_frames.Given as goal

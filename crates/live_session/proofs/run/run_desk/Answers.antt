@@ -6,7 +6,7 @@ use Rattle.post_box.specs.Ends.{TakerState, first_poster}
 use Rattle.post_box.specs.History.{posts_by}
 use Rattle.published_frames.specs.declared.entry.Step.{Step}
 use Rattle.published_frames.specs.Taken.{posts_of}
-use Rattle.live_session.specs.LiveText.{sink_state}
+use Rattle.outside_io.specs.Sinks.{sink_state}
 use Rattle.live_session.proofs.GoalCount.{goals_few}
 use Rattle.live_session.proofs.Standing.{controllers_few}
 use Rattle.live_session.proofs.Written.{ended_here}

@@ -1,7 +1,7 @@
 use Rattle.std.proofs.Common.{[], ◌++◌}
 use Rattle.outside_io.proofs.WroteLemmas.{prefix_whole}
 use Rattle.frame_text.specs.Transcript.{frame_text, scenario_text}
-use Rattle.live_session.specs.LiveText.{sink_state}
+use Rattle.outside_io.specs.Sinks.{sink_state}
 use Rattle.live_session.specs.declared.fault.LiveFault.TheVariants.{NoMemory}
 use Rattle.live_session.proofs.Lived.{begun}
 use Rattle.live_session.proofs.run.run_steps.Goals as goal

@@ -3,7 +3,8 @@ use Rattle.outside_io.proofs.WroteLemmas.{prefix_nothing}
 use Rattle.crowd_data.specs.Run.{start_of}
 use Rattle.crowd_data.specs.Scenario.{Parts}
 use Rattle.frame_text.specs.Transcript.{frame_text, scenario_text}
-use Rattle.live_session.specs.LiveText.{WroteLive, WroteLivePart, sink_state}
+use Rattle.outside_io.specs.Sinks.{sink_state}
+use Rattle.live_session.specs.LiveText.{WroteLive, WroteLivePart}
 use Rattle.live_session.specs.declared.fault.LiveFault.TheVariants.{NoMemory, WriteFault}
 use Rattle.live_session.proofs.Lived.{begun, cut_off_at_once, lived_at_once}
 use Rattle.live_session.proofs.run.run_whole.Goals as goal

@@ -4,7 +4,8 @@ use Rattle.controller_turns.specs.Controllers.{ControllerState}
 use Rattle.live_session.specs.declared.steered.Steering.{Steering}
 use Rattle.live_session.specs.Steering.{AreSteering, IsSteering}
 use Rattle.live_session.proofs.Rows.{next_below, row_more}
-use Rattle.live_session.proofs.Standing.{controllers_few, length-first_posters, next_poster}
+use Rattle.crowd_data.proofs.Controllers.{controllers_few}
+use Rattle.live_session.proofs.Standing.{length-first_posters, next_poster}
 use Rattle.live_session.proofs.starting.start_all.Goals as goal
 
 pub bounds-notices-len : goal.bounds-notices-len

@@ -7,7 +7,8 @@ use Rattle.frame_text.specs.Transcript.{frame_text}
 use Rattle.published_frames.specs.History.{AreInRange}
 use Rattle.published_frames.specs.Names.{writer_history}
 use Rattle.live_session.specs.Running.{step_to}
-use Rattle.live_session.specs.LiveText.{IsLiveList, WroteLivePart, sink_state}
+use Rattle.outside_io.specs.Sinks.{sink_state}
+use Rattle.live_session.specs.LiveText.{IsLiveList, WroteLivePart}
 use Rattle.live_session.specs.declared.fault.LiveFault.TheVariants.{WriteFault, NoMemory}
 use Rattle.live_session.proofs.Written.{broken_off, running_next}
 use Rattle.live_session.proofs.stepping.advance.Goals as goal
