@@ -7,5 +7,6 @@ pub mod Frames
 pub mod Sight
 pub mod Shares
 pub mod ScriptedPosts
+mod SoFar
 mod Examples
 pub mod GoalTables

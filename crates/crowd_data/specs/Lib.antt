@@ -2,6 +2,7 @@ pub mod Limits
 pub mod Scenario
 pub mod RingPlanes
 pub mod Walls
+pub mod Standing
 pub mod Pairs
 pub mod Neighbours
 pub mod Advice

@@ -17,6 +17,7 @@ mod post;
 mod scenario;
 mod script;
 mod segment;
+mod standing;
 mod validity;
 
 pub use agent::Agent;
@@ -34,6 +35,7 @@ pub use post::{Goal, Post, SCRIPT, ScriptPost};
 pub use scenario::Scenario;
 pub use script::push_script;
 pub use segment::Segment;
+pub use standing::{Touch, first_on_segment};
 pub use validity::valid;
 
 #[cfg(test)]

@@ -1,6 +1,5 @@
 pub mod RecordSteps
 pub mod Boms
-mod SoFar
 mod ScenarioRecords
 mod PostOrder
 mod GeneratedParts

@@ -7,7 +7,8 @@ use Rattle.crowd_data.specs.declared.agent.Agent.{Agent}
 use Rattle.crowd_data.specs.Scenario.{Parts}
 use Rattle.crowd_data.specs.Walls.{IsClear}
 use Rattle.scenario_read.specs.declared.cause.Cause.{Cause}
-use Rattle.scenario_read.specs.Reading.{AllClear, IsAccepted, IsRefusedFor, outcome}
+use Rattle.crowd_data.specs.Standing.{AllClear}
+use Rattle.scenario_read.specs.Reading.{IsAccepted, IsRefusedFor, outcome}
 use Rattle.scenario_read.specs.Records.{Record}
 
 all_at : {A : Type 0} (P : A → Type 0) (xs : List A) (k : ℕ) (x : A) → All P xs → slice_get xs k ≡ Some x → P x

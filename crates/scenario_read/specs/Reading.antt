@@ -1,12 +1,10 @@
 -- How a scenario is read: a fold over the list of records, with the first cause that holds.
-use Rattle.std.specs.Prelude.{◌≡◌, ◌⊎◌, ℕ, ◌+◌, ◌==◌, ◌&&◌, if◌then◌else◌, List, [], ◌∷◌, length, Some, None, Result, Ok, Err, codes, slice_get, take as first_of, All, unwrap_or}
+use Rattle.std.specs.Prelude.{◌≡◌, ◌⊎◌, ℕ, ◌+◌, ◌==◌, ◌&&◌, if◌then◌else◌, List, [], ◌∷◌, length, Some, None, Result, Ok, Err, codes, unwrap_or}
 use Rattle.std.specs.declared.option.Option.{Option}
 use Rattle.std.specs.Str.{bytes_eq}
-use Rattle.crowd_data.specs.declared.agent.Agent.{Agent}
-use Rattle.crowd_data.specs.declared.segment.Segment.{Segment}
 use Rattle.crowd_data.specs.declared.limits.TheConstants.{FIRST_VERSION, LATEST_VERSION, PLAIN_RING}
 use Rattle.crowd_data.specs.Scenario.{Parts}
-use Rattle.crowd_data.specs.Walls.{IsClear}
+use Rattle.crowd_data.specs.Standing.{AllClear, OnSegment}
 use Rattle.scenario_read.specs.declared.cause.Cause.{Cause}
 use Rattle.scenario_read.specs.declared.cause.Cause.TheVariants.{NoHeader, UnknownKind, NoSteps, AgentOnSegment}
 use Rattle.scenario_read.specs.declared.cause.ScenarioFault.{ScenarioFault}
@@ -99,20 +97,6 @@ outcome_from p k (fields ∷ rest) = go_on (numbered k (with_record p fields)) (
 -- the scenario of the records, or the first cause, but for agents on segments
 abbrev pub outcome : List Record → Result Parts (ℕ × Cause)
 outcome rows = outcome_from nothing_read 0 rows
-
--- every agent is clear of every segment
-abbrev pub AllClear : List Agent → List Segment → Type 0
-AllClear agents segments = All (λ (agent : Agent). All (IsClear agent.pos agent.radius) segments) agents
-
--- an agent isn't clear of a segment; it is the least such agent, and for it the least such segment
-pub record OnSegment (agents : List Agent) (segments : List Segment) (who which : ℕ) : Type 0 where
-  pub agent : Agent
-  pub segment : Segment
-  pub agent_is : slice_get agents who ≡ Some agent
-  pub segment_is : slice_get segments which ≡ Some segment
-  pub touched : ¬ IsClear agent.pos agent.radius segment
-  pub least_segment : All (IsClear agent.pos agent.radius) (first_of which segments)
-  pub least_agent : AllClear (first_of who agents) segments
 
 -- records are accepted as a scenario: no cause holds
 pub record IsAccepted (rows : List Record) (scenario : Parts) : Type 0 where

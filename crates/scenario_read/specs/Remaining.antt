@@ -8,7 +8,8 @@ use Rattle.scenario_read.specs.declared.cause.ScenarioFault.{ScenarioFault}
 use Rattle.scenario_read.specs.declared.cause.ScenarioFault.TheVariants.{NoMemory, At}
 use Rattle.scenario_read.specs.declared.refusal.Refusal.{Refusal}
 use Rattle.scenario_read.specs.Read.{Read}
-use Rattle.scenario_read.specs.Reading.{AllClear, OnSegment, outcome_from}
+use Rattle.crowd_data.specs.Standing.{AllClear, OnSegment}
+use Rattle.scenario_read.specs.Reading.{outcome_from}
 use Rattle.scenario_read.specs.Records.{Record}
 
 -- a cause that was found stays the first one

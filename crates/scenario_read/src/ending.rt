@@ -8,8 +8,7 @@ use crate::cause::{Cause, ScenarioFault};
 use crate::part::Part;
 use crate::reading::Reading;
 use crate::refusal::Refusal;
-use crate::standing::first_on_segment;
-use crowd_data::{PLAIN_RING, Scenario};
+use crowd_data::{PLAIN_RING, Scenario, first_on_segment};
 
 // The scenario of what was read, where the records end here.
 #[tactic(auto, unfolding(crate::specs::Reading::ended))]

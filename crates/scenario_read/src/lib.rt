@@ -19,7 +19,6 @@ mod record_fault;
 mod refusal;
 mod ring_record;
 mod segment_record;
-mod standing;
 mod steps_record;
 mod values;
 

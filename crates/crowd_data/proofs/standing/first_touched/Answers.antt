@@ -1,8 +1,8 @@
 use Rattle.std.proofs.Common.{arith}
 use Rattle.std.proofs.lemmas.Option.{slice_get-get_or}
 use Rattle.crowd_data.specs.Walls.{IsClear}
-use Rattle.scenario_read.proofs.SoFar.{all_more, all_of_so_far}
-use Rattle.scenario_read.proofs.standing.first_touched.Goals as goal
+use Rattle.crowd_data.proofs.SoFar.{all_more, all_of_so_far}
+use Rattle.crowd_data.proofs.standing.first_touched.Goals as goal
 
 pub returns-then-not-clear-clause-some : goal.returns-then-not-clear-clause-some
 returns-then-not-clear-clause-some c = (

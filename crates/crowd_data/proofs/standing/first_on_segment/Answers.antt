@@ -2,8 +2,8 @@ use Rattle.std.proofs.Common.{All, arith}
 use Rattle.std.proofs.lemmas.Option.{slice_get-get_or}
 use Rattle.crowd_data.specs.declared.agent.Agent.{Agent}
 use Rattle.crowd_data.specs.Walls.{IsClear}
-use Rattle.scenario_read.proofs.SoFar.{all_more, all_of_so_far}
-use Rattle.scenario_read.proofs.standing.first_on_segment.Goals as goal
+use Rattle.crowd_data.proofs.SoFar.{all_more, all_of_so_far}
+use Rattle.crowd_data.proofs.standing.first_on_segment.Goals as goal
 
 pub returns-in-Some-clause-some : goal.returns-in-Some-clause-some
 returns-in-Some-clause-some c =

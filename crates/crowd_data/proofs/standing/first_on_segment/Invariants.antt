@@ -1,6 +1,6 @@
 use Rattle.std.proofs.Common.{take}
-use Rattle.scenario_read.specs.Reading.{AllClear}
-use Rattle.scenario_read.proofs.standing.first_on_segment.Given as goal
+use Rattle.crowd_data.specs.Standing.{AllClear}
+use Rattle.crowd_data.proofs.standing.first_on_segment.Given as goal
 
 -- the agents so far are clear of all segments
 abbrev pub invariant-loop-who : goal.invariant-loop-who

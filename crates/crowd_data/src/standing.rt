@@ -3,13 +3,16 @@ ghost use Rattle.std.specs.Prelude.{◌≡◌, ◌≤◌, All, IfNone, IfSome, S
 ghost use Rattle.crowd_data.specs.Limits.{IsAgent, IsSegment};
 ghost use Rattle.crowd_data.specs.Walls.{IsClear};
 ghost use Rattle.crowd_data.specs.declared.segment.Segment.{Segment};
-ghost use Rattle.scenario_read.specs.Reading.{AllClear, OnSegment};
+ghost use Rattle.crowd_data.specs.Standing.{AllClear, OnSegment};
 
-use crowd_data::{Agent, Segment, clear};
+use crate::agent::Agent;
+use crate::clearance::clear;
+use crate::limits::{MOST_AGENTS, MOST_SEGMENTS};
+use crate::segment::Segment;
 
 /// An agent that isn't clear of a segment.
 #[derive(Clone, Copy)]
-pub(crate) struct Touch {
+pub struct Touch {
     pub agent: u32,
     pub segment: u32,
 }
@@ -18,7 +21,7 @@ pub(crate) struct Touch {
 fn first_touched(agent: &Agent, segments: &[Segment]) -> Option<u32>
     requires agent { IsAgent agent.now }
     requires segments { All IsSegment segments.now }
-    requires count { length segments.now ≤ 2000 }
+    requires count { length segments.now ≤ MOST_SEGMENTS }
     ensures none { IfNone result (All (IsClear agent.now.pos agent.now.radius) segments.now) }
     ensures some { IfSome result (λ which. (segment : Segment) × (slice_get segments.now which ≡ Some segment)
         × (¬ IsClear agent.now.pos agent.now.radius segment) × All (IsClear agent.now.pos agent.now.radius) (take which segments.now)) }
@@ -31,12 +34,13 @@ fn first_touched(agent: &Agent, segments: &[Segment]) -> Option<u32>
     None
 }
 
-/// The first agent that isn't clear of some segment, with the first such segment.
-pub(crate) fn first_on_segment(agents: &[Agent], segments: &[Segment]) -> Option<Touch>
+/// The first agent that isn't clear of some segment, with the first such segment. Its time grows with the
+/// count of agents times that of segments; it takes no memory.
+pub fn first_on_segment(agents: &[Agent], segments: &[Segment]) -> Option<Touch>
     requires agents { All IsAgent agents.now }
-    requires agent_count { length agents.now ≤ 10000 }
+    requires agent_count { length agents.now ≤ MOST_AGENTS }
     requires segments { All IsSegment segments.now }
-    requires segment_count { length segments.now ≤ 2000 }
+    requires segment_count { length segments.now ≤ MOST_SEGMENTS }
     ensures none { IfNone result (AllClear agents.now segments.now) }
     ensures some { IfSome result (λ touch. OnSegment agents.now segments.now touch.agent touch.segment) }
 {
