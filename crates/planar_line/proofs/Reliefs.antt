@@ -112,7 +112,7 @@ relieved-less plane d e le above =
 pub keep-less : (hard d e : ℕ) (planes : List Plane) → d ≤ e → KeepBounds hard e planes → KeepBounds hard d planes
 keep-less hard d e planes le bounds = λ k x l. relieved-less (get_or (drop hard planes) k x) d e le (bounds k x l)
 
-whole_length-le : (plane : Plane) → FitsPlane plane → whole_length plane.n ≤ 2 ^ 32
+pub whole_length-le : (plane : Plane) → FitsPlane plane → whole_length plane.n ≤ 2 ^ 32
 whole_length-le plane fits =
     ⊎_elim
     (λ above.
