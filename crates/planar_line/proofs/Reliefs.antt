@@ -1,5 +1,5 @@
 -- Half-planes that are relieved, by themselves and in a list after the first few.
-use Rattle.std.proofs.Common.{◌≡◌, ℕ, ◌+◌, ◌-◌, ◌*◌, ◌<◌, ◌≤◌, List, [], ◌∷◌, length, get_or, take, drop, map, ap, subst, sym, ◌∙◌, ⊎_elim, arith, pos, ◌-ℤ◌, ◌≤ℤ◌, ◌^◌, unsigned_abs, mul-le-mul}
+use Rattle.std.proofs.Common.{◌≡◌, ℕ, ◌+◌, ◌-◌, ◌*◌, ◌<◌, ◌≤◌, List, [], ◌∷◌, length, get_or, take, drop, map, ap, subst, sym, ◌∙◌, ◌⊎◌, ⊎_elim, arith, pos, ◌-ℤ◌, ◌≤ℤ◌, ◌^◌, unsigned_abs, mul-le-mul}
 use Rattle.std.proofs.lemmas.Int.{ints}
 use Rattle.std.proofs.lemmas.List.{get_or_append_left, get_or-append_right, get_or-take, get_or-drop, get_or-map, get_or_default, get_or_read, length-take-le, length-drop, length-map, length-append}
 use Rattle.std.specs.List.{All}
@@ -91,6 +91,10 @@ module _ (hard relief : ℕ) (planes : List Plane) (le : hard ≤ length planes)
     pub plane-soft : hard ≤ k → relieved_of plane relief ≡ get_or (relieved_after hard relief planes) k no_plane
     plane-soft m = ap (λ g. relieved_of g relief) plane-read ∙ sym (get_or-soft k no_plane m l)
 
+    pub plane-same : (k < hard) ⊎ (relief ≡ 0) → plane ≡ get_or (relieved_after hard relief planes) k no_plane
+    plane-same = ⊎_elim plane-hard (λ none. ⊎_elim plane-hard
+        (λ m. sym (relieved_of-zero plane) ∙ ap (λ d. relieved_of plane d) (sym none) ∙ plane-soft m) (cases_lt k hard))
+
     pub plane-in : (p : Rational) → IsPoint p → IsIn plane p → IsIn (get_or (relieved_after hard relief planes) k no_plane) p
     plane-in p hp inside = relieved_after-in k p l hp (subst (λ g. IsIn g p) plane-read inside)
 
@@ -108,7 +112,7 @@ relieved-less plane d e le above =
 pub keep-less : (hard d e : ℕ) (planes : List Plane) → d ≤ e → KeepBounds hard e planes → KeepBounds hard d planes
 keep-less hard d e planes le bounds = λ k x l. relieved-less (get_or (drop hard planes) k x) d e le (bounds k x l)
 
-whole_length-le : (plane : Plane) → FitsPlane plane → whole_length plane.n ≤ 2 ^ 32
+pub whole_length-le : (plane : Plane) → FitsPlane plane → whole_length plane.n ≤ 2 ^ 32
 whole_length-le plane fits =
     ⊎_elim
     (λ above.

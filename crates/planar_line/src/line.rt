@@ -33,6 +33,9 @@ pub fn best_on_line(
         ↔ ((v : Rational) → IsAdmitted (relieved_after hard relief planes.now) line v → ⊥) }
 {
     let border = plane_at(planes, hard, relief, line);
-    let span = Span::whole(&border).narrowed(planes, hard, relief, 0, line)?;
-    Some(span.nearest(pref))
+    let mut span = Span::whole(&border, line);
+    match span.narrow(planes, hard, relief, 0, line) {
+        Ok(()) => Some(span.nearest(pref)),
+        Err(_) => None,
+    }
 }

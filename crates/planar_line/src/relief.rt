@@ -1,5 +1,5 @@
 // Lists of half-planes of which the first few are hard, and the others are relieved.
-ghost use Rattle.std.specs.Prelude.{◌≡◌, ◌<◌, ◌≤◌, ◌↔◌, length, slice_index_or, IsTrue};
+ghost use Rattle.std.specs.Prelude.{◌≡◌, ◌<◌, ◌≤◌, ◌↔◌, ◌⊎◌, length, slice_index_or, IsTrue, IsFalse};
 ghost use Rattle.fixed_vec.specs.HalfPlane.{relieved_of};
 ghost use Rattle.fixed_vec.specs.Meeting.{relieved_after};
 ghost use Rattle.fixed_vec.specs.Point.{IsIn};
@@ -37,6 +37,14 @@ pub fn plane_at(planes: &[HalfPlane], hard: usize, relief: u32, place: usize) ->
     }
 }
 
+/// Whether the half-plane at a place is moved: it is none of the first `hard`, and the relief isn't zero.
+pub(crate) fn is_relieved(hard: usize, relief: u32, place: usize) -> bool
+    ensures moved { IsTrue result → hard ≤ place }
+    ensures same { IsFalse result → (place < hard) ⊎ (relief ≡ 0) }
+{
+    place >= hard && relief != 0
+}
+
 /// Whether the point is in the half-plane at a place of the list, as it is among the first `hard`,
 /// and else relieved.
 pub fn contains_at(
@@ -54,7 +62,10 @@ pub fn contains_at(
 {
     // A point's denominator is positive, so a half-plane that has it still does when it is relieved.
     let _q = point.q();
-    is_in(&planes[place], point) || is_in(&plane_at(planes, hard, relief, place), point)
+    if is_in(&planes[place], point) {
+        return true;
+    }
+    is_relieved(hard, relief, place) && is_in(&plane_at(planes, hard, relief, place), point)
 }
 
 /// Whether the point is in the half-plane.

@@ -1,27 +1,30 @@
 // A stretch of a border.
-ghost use Rattle.std.specs.Prelude.{◌≤◌, ◌↔◌, length, pos, ◌<ℤ◌, ◌≤ℤ◌, IsTrue, IfSome, IfNone};
+ghost use Rattle.std.specs.Prelude.{◌≡◌, ◌≤◌, ◌<◌, ◌↔◌, length, pos, ◌<ℤ◌, ◌≤ℤ◌, slice_index_or, IsTrue, IsFalse, IfOk, IfErr};
 ghost use Rattle.std.specs.List.{slice_range};
 ghost use Rattle.std.specs.Option.{ForSome, IsSomeAnd};
 ghost use Rattle.fixed_vec.specs.Point.{IsIn, Rational};
 ghost use Rattle.fixed_vec.specs.Vector.{cross as cross_of};
 ghost use Rattle.fixed_vec.specs.Meeting.{Meeting, IsNoFarther, relieved_after};
 ghost use Rattle.planar_line.specs.Border.{IsOnBorder, IsPreference, toward};
-ghost use Rattle.planar_line.specs.Relief.{KeepBounds};
+ghost use Rattle.planar_line.specs.Relief.{KeepBounds, no_plane};
 ghost use Rattle.planar_line.specs.Span.{Stretch, IsStretch, IsOnStretch, IsPart};
 
+use crate::conflict::Conflict;
 use crate::crossing::{crossing, slope};
 use crate::foot::{foot, lead};
-use crate::relief::{is_in, plane_at};
+use crate::relief::{is_in, is_relieved, plane_at};
 use fixed_vec::{HalfPlane, Point, V2};
 use std::marker::Model;
 
 /// A stretch of the border of a half-plane, between two ends that may be missing. Its type keeps
 /// that it has a point.
-#[derive(Clone, Copy)]
+#[derive(Drop)]
 pub struct Span {
     border: HalfPlane,
     low: Option<Point>,
     high: Option<Point>,
+    // The places of the half-planes that made the border and its ends. Nothing rests on them.
+    makers: Conflict,
 }
 
 impl Model for Span {
@@ -30,33 +33,31 @@ impl Model for Span {
     ghost view = { λ s. record { border = s.border; low = s.low; high = s.high } };
 
     ghost invariant = { λ s. IsStretch (record { border = s.border; low = s.low; high = s.high }) };
-
-    ghost inverse = { λ s. record { border = s.border; low = s.low; high = s.high } };
 }
 
 // Whether there is an end, in the half-plane.
-fn is_end_in(plane: &HalfPlane, end: Option<Point>) -> bool
-    ensures { IsTrue result ↔ IsSomeAnd end (IsIn plane.now) }
+fn is_end_in(plane: &HalfPlane, end: &Option<Point>) -> bool
+    ensures { IsTrue result ↔ IsSomeAnd end.now (IsIn plane.now) }
 {
     match end {
         None => false,
-        Some(point) => is_in(plane, &point),
+        Some(point) => is_in(plane, point),
     }
 }
 
 // Whether the end is missing, or in the half-plane.
-fn is_no_end_out(plane: &HalfPlane, end: Option<Point>) -> bool
-    ensures { IsTrue result ↔ ForSome end (IsIn plane.now) }
+fn is_no_end_out(plane: &HalfPlane, end: &Option<Point>) -> bool
+    ensures { IsTrue result ↔ ForSome end.now (IsIn plane.now) }
 {
     match end {
         None => true,
-        Some(point) => is_in(plane, &point),
+        Some(point) => is_in(plane, point),
     }
 }
 
 impl Span {
-    /// The whole border of the half-plane.
-    pub fn whole(border: &HalfPlane) -> Span
+    /// The whole border of the half-plane, which stands at a place of a list.
+    pub fn whole(border: &HalfPlane, place: usize) -> Span
         ensures { (p : Rational) → IsOnStretch result p ↔ IsOnBorder border.now p }
     {
         // The reader tells that the normal isn't zero, so that the border has points.
@@ -65,6 +66,11 @@ impl Span {
             border: *border,
             low: None,
             high: None,
+            makers: Conflict {
+                line: place,
+                low: place,
+                high: place,
+            },
         }
     }
 
@@ -74,100 +80,128 @@ impl Span {
     {
         let slope = slope(&self.border, plane);
         if slope > 0 {
-            is_end_in(plane, self.low)
+            is_end_in(plane, &self.low)
         } else if slope < 0 {
-            is_end_in(plane, self.high)
+            is_end_in(plane, &self.high)
         } else {
             false
         }
     }
 
-    // The part of the span in a half-plane that bounds it from below.
-    fn raised(self, plane: &HalfPlane) -> Option<Span>
-        requires { pos 0 <ℤ cross_of self.border.n plane.now.n }
-        ensures exact { IfSome result (λ s. IsPart s self (IsIn plane.now)) }
-        ensures none { IfNone result ((p : Rational) → IsOnStretch self p → IsIn plane.now p → ⊥) }
+    // Leaves the part of the span in a half-plane that bounds it from below, and tells whether there is any.
+    fn raise(&mut self, plane: &HalfPlane, place: usize) -> bool
+        requires { pos 0 <ℤ cross_of self.old.border.n plane.now.n }
+        ensures exact { IsTrue result → IsPart self.new self.old (IsIn plane.now) }
+        ensures none { IsFalse result → (p : Rational) → IsOnStretch self.old p → IsIn plane.now p → ⊥ }
     {
-        if is_end_in(plane, self.low) {
-            return Some(self);
+        if is_end_in(plane, &self.low) {
+            return true;
         }
-        if !is_no_end_out(plane, self.high) {
-            return None;
+        self.makers.low = place;
+        if !is_no_end_out(plane, &self.high) {
+            return false;
         }
-        let end = crossing(&self.border, plane);
-        Some(Span {
-            border: self.border,
-            low: Some(end),
-            high: self.high,
-        })
+        self.low = Some(crossing(&self.border, plane));
+        true
     }
 
-    // The part of the span in a half-plane that bounds it from above.
-    fn lowered(self, plane: &HalfPlane) -> Option<Span>
-        requires { cross_of self.border.n plane.now.n <ℤ pos 0 }
-        ensures exact { IfSome result (λ s. IsPart s self (IsIn plane.now)) }
-        ensures none { IfNone result ((p : Rational) → IsOnStretch self p → IsIn plane.now p → ⊥) }
+    // Leaves the part of the span in a half-plane that bounds it from above, and tells whether there is any.
+    fn lower(&mut self, plane: &HalfPlane, place: usize) -> bool
+        requires { cross_of self.old.border.n plane.now.n <ℤ pos 0 }
+        ensures exact { IsTrue result → IsPart self.new self.old (IsIn plane.now) }
+        ensures none { IsFalse result → (p : Rational) → IsOnStretch self.old p → IsIn plane.now p → ⊥ }
     {
-        if is_end_in(plane, self.high) {
-            return Some(self);
+        if is_end_in(plane, &self.high) {
+            return true;
         }
-        if !is_no_end_out(plane, self.low) {
-            return None;
+        self.makers.high = place;
+        if !is_no_end_out(plane, &self.low) {
+            return false;
         }
-        let end = crossing(plane, &self.border);
-        Some(Span {
-            border: self.border,
-            low: self.low,
-            high: Some(end),
-        })
+        self.high = Some(crossing(plane, &self.border));
+        true
     }
 
-    // The part of the span in the half-plane.
-    fn cut(self, plane: &HalfPlane) -> Option<Span>
-        ensures exact { IfSome result (λ s. IsPart s self (IsIn plane.now)) }
-        ensures none { IfNone result ((p : Rational) → IsOnStretch self p → IsIn plane.now p → ⊥) }
+    // Tells whether the half-plane, whose border is parallel, has all of the span. Else it has none of it.
+    fn level(&mut self, plane: &HalfPlane, place: usize) -> bool
+        requires { cross_of self.old.border.n plane.now.n ≡ pos 0 }
+        ensures exact { IsTrue result → IsPart self.new self.old (IsIn plane.now) }
+        ensures none { IsFalse result → (p : Rational) → IsOnStretch self.old p → IsIn plane.now p → ⊥ }
+    {
+        if is_in(plane, &foot(&self.border, V2 { x: 0, y: 0 })) {
+            return true;
+        }
+        self.makers.low = place;
+        self.makers.high = place;
+        false
+    }
+
+    // Leaves the part of the span in a half-plane, and tells whether there is any.
+    fn cut(&mut self, plane: &HalfPlane, place: usize) -> bool
+        ensures exact { IsTrue result → IsPart self.new self.old (IsIn plane.now) }
+        ensures none { IsFalse result → (p : Rational) → IsOnStretch self.old p → IsIn plane.now p → ⊥ }
     {
         let slope = slope(&self.border, plane);
         if slope > 0 {
-            self.raised(plane)
+            self.raise(plane, place)
         } else if slope < 0 {
-            self.lowered(plane)
-        } else if is_in(plane, &foot(&self.border, V2 { x: 0, y: 0 })) {
-            Some(self)
+            self.lower(plane, place)
         } else {
-            None
+            self.level(plane, place)
         }
     }
 
-    /// The part of the span in each half-plane of the list from the place `from` up to `to`, if it
-    /// has a point. The first `hard` half-planes of the list are taken as they are, and the others
-    /// moved back by `relief` lengths of their normals.
-    pub fn narrowed(
-        self,
+    // Leaves the part of the span in the half-plane at a place of a list, and tells whether there is any.
+    fn cut_at(&mut self, planes: &[HalfPlane], hard: usize, relief: u32, place: usize) -> bool
+        requires place { place < length planes.now }
+        requires hard { hard ≤ length planes.now }
+        requires bounds { KeepBounds hard relief planes.now }
+        ensures exact { IsTrue result
+            → IsPart self.new self.old (IsIn (slice_index_or (relieved_after hard relief planes.now) place no_plane)) }
+        ensures none { IsFalse result
+            → (p : Rational) → IsOnStretch self.old p
+            → IsIn (slice_index_or (relieved_after hard relief planes.now) place no_plane) p → ⊥ }
+    {
+        let plane = &planes[place];
+        if is_relieved(hard, relief, place) {
+            // A half-plane that has all of the span as it is does so when it is relieved too.
+            if self.is_spared(plane) {
+                return true;
+            }
+            self.cut(&plane_at(planes, hard, relief, place), place)
+        } else {
+            self.cut(plane, place)
+        }
+    }
+
+    /// Leaves the part of the span in each half-plane of the list from the place `from` up to `to`. If it
+    /// has no point, the error tells the places of half-planes that exclude each other. The first `hard`
+    /// half-planes of the list are taken as they are, and the others moved back by `relief` lengths of
+    /// their normals.
+    pub fn narrow(
+        &mut self,
         planes: &[HalfPlane],
         hard: usize,
         relief: u32,
         from: usize,
         to: usize,
-    ) -> Option<Span>
+    ) -> Result<(), Conflict>
         requires hard { hard ≤ length planes.now }
         requires order { from ≤ to }
         requires end { to ≤ length planes.now }
         requires bounds { KeepBounds hard relief planes.now }
-        ensures exact { IfSome result
-            (λ s. IsPart s self (Meeting (slice_range (relieved_after hard relief planes.now) from to))) }
-        ensures none { IfNone result
-            ((p : Rational) → IsOnStretch self p
+        ensures exact { IfOk result
+            (λ _. IsPart self.new self.old (Meeting (slice_range (relieved_after hard relief planes.now) from to))) }
+        ensures none { IfErr result
+            (λ _. (p : Rational) → IsOnStretch self.old p
             → Meeting (slice_range (relieved_after hard relief planes.now) from to) p → ⊥) }
     {
-        let mut span = self;
         for place in from..to {
-            // A half-plane that spares the span as it is does so when it is relieved too.
-            if !span.is_spared(&planes[place]) {
-                span = span.cut(&plane_at(planes, hard, relief, place))?;
+            if !self.cut_at(planes, hard, relief, place) {
+                return Err(self.makers);
             }
         }
-        Some(span)
+        Ok(())
     }
 
     /// The point of the span that is nearest to the whole point.

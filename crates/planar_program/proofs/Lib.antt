@@ -3,3 +3,4 @@ pub mod Places
 pub mod Looser
 pub mod OneValue
 pub mod Existence
+pub mod Certificates

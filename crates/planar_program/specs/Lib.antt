@@ -1,2 +1,3 @@
 pub mod Taken
 pub mod Met
+pub mod Certificate

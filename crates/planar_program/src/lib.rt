@@ -2,6 +2,7 @@
 //! relief of the soft ones that leaves a common point.
 #![tactic(auto)]
 
+mod certificate;
 mod meeting;
 mod optimum;
 mod relief;

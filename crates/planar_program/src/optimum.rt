@@ -1,5 +1,5 @@
 // The common point of half-planes that is nearest to a whole point.
-ghost use Rattle.std.specs.Prelude.{◌↔◌, ◌<◌, ◌≤◌, length, pos, ◌≤ℤ◌, IsNone, IfSome, IfNone};
+ghost use Rattle.std.specs.Prelude.{◌↔◌, ◌<◌, ◌≤◌, length, pos, ◌≤ℤ◌, IsNone, IfSome, IfOk, IfErr};
 ghost use Rattle.fixed_vec.specs.Meeting.{IsEmpty, Meeting, Nearest, relieved_after};
 ghost use Rattle.fixed_vec.specs.Point.{Rational};
 ghost use Rattle.planar_line.specs.Border.{IsPreference, toward};
@@ -7,7 +7,7 @@ ghost use Rattle.planar_line.specs.Relief.{KeepBounds};
 ghost use Rattle.planar_program.specs.Taken.{BestOnBorder, IsOnTaken};
 
 use fixed_vec::{HalfPlane, Point, V2};
-use planar_line::{Span, contains_at, plane_at};
+use planar_line::{Conflict, Span, contains_at, plane_at};
 
 // The best point on the border of the half-plane at `place`, among those in each half-plane taken: the
 // soft ones up to the place `soft_end`, and the hard ones up to `hard_end`.
@@ -19,7 +19,7 @@ fn best_on_border(
     soft_end: usize,
     hard_end: usize,
     pref: V2,
-) -> Option<Point>
+) -> Result<Point, Conflict>
     requires place { place < length planes.now }
     requires hard { hard ≤ length planes.now }
     requires soft_start { hard ≤ soft_end }
@@ -27,30 +27,36 @@ fn best_on_border(
     requires hard_end { hard_end ≤ length planes.now }
     requires pref { IsPreference pref }
     requires bounds { KeepBounds hard relief planes.now }
-    ensures best { IfSome result
+    ensures best { IfOk result
         (BestOnBorder (relieved_after hard relief planes.now) place hard soft_end hard_end pref) }
-    ensures none { IfNone result
-        ((v : Rational)
+    ensures none { IfErr result
+        (λ _. (v : Rational)
         → IsOnTaken (relieved_after hard relief planes.now) place hard soft_end hard_end v → ⊥) }
 {
     let border = plane_at(planes, hard, relief, place);
-    let span = Span::whole(&border)
-        .narrowed(planes, hard, relief, hard, soft_end)?
-        .narrowed(planes, hard, relief, 0, hard_end)?;
-    Some(span.nearest(pref))
+    let mut span = Span::whole(&border, place);
+    span.narrow(planes, hard, relief, hard, soft_end)?;
+    span.narrow(planes, hard, relief, 0, hard_end)?;
+    Ok(span.nearest(pref))
 }
 
-/// The point nearest to `pref` among those in each half-plane of the list, if there are any. The first
-/// `hard` half-planes are taken as they are, and the others moved back by `relief` lengths of their normals.
-pub fn nearest(planes: &[HalfPlane], hard: usize, relief: u32, pref: V2) -> Option<Point>
+/// The point nearest to `pref` among those in each half-plane of the list, or the places of half-planes that
+/// exclude each other. The first `hard` half-planes are taken as they are, and the others moved back by
+/// `relief` lengths of their normals.
+pub(crate) fn optimum(
+    planes: &[HalfPlane],
+    hard: usize,
+    relief: u32,
+    pref: V2,
+) -> Result<Point, Conflict>
     requires hard { hard ≤ length planes.now }
     requires pref { IsPreference pref }
     requires bounds { KeepBounds hard relief planes.now }
-    ensures nearest { IfSome result (Nearest (relieved_after hard relief planes.now) pref) }
-    ensures toward { IfSome result
+    ensures nearest { IfOk result (Nearest (relieved_after hard relief planes.now) pref) }
+    ensures toward { IfOk result
         (λ p. (v : Rational) → Meeting (relieved_after hard relief planes.now) v
         → toward pref p v ≤ℤ pos 0) }
-    ensures none { IsNone result ↔ IsEmpty (relieved_after hard relief planes.now) }
+    ensures none { IfErr result (λ _. IsEmpty (relieved_after hard relief planes.now)) }
 {
     let count = planes.len();
     let mut best = Point::of(pref.x as i128, pref.y as i128, 1);
@@ -66,5 +72,23 @@ pub fn nearest(planes: &[HalfPlane], hard: usize, relief: u32, pref: V2) -> Opti
             best = best_on_border(planes, hard, relief, place, count, place, pref)?;
         }
     }
-    Some(best)
+    Ok(best)
+}
+
+/// The point nearest to `pref` among those in each half-plane of the list, if there are any. The first
+/// `hard` half-planes are taken as they are, and the others moved back by `relief` lengths of their normals.
+pub fn nearest(planes: &[HalfPlane], hard: usize, relief: u32, pref: V2) -> Option<Point>
+    requires hard { hard ≤ length planes.now }
+    requires pref { IsPreference pref }
+    requires bounds { KeepBounds hard relief planes.now }
+    ensures nearest { IfSome result (Nearest (relieved_after hard relief planes.now) pref) }
+    ensures toward { IfSome result
+        (λ p. (v : Rational) → Meeting (relieved_after hard relief planes.now) v
+        → toward pref p v ≤ℤ pos 0) }
+    ensures none { IsNone result ↔ IsEmpty (relieved_after hard relief planes.now) }
+{
+    match optimum(planes, hard, relief, pref) {
+        Ok(point) => Some(point),
+        Err(_) => None,
+    }
 }

@@ -5,7 +5,8 @@ ghost use Rattle.planar_line.specs.Border.{IsPreference};
 ghost use Rattle.planar_line.specs.Relief.{KeepBounds};
 ghost use Rattle.planar_program.specs.Met.{IsMet};
 
-use crate::optimum::nearest;
+use crate::certificate::raised_relief;
+use crate::optimum::optimum;
 use fixed_vec::{HalfPlane, Point, V2};
 
 /// The greatest relief that is tried, in whole units per step.
@@ -36,25 +37,12 @@ pub fn least_relief(planes: &[HalfPlane], hard: usize, pref: V2) -> Option<Relie
     ensures none { IsNone result ↔ IsEmpty (take hard planes.now) }
 {
     // Nearly always no relief is needed.
-    if let Some(point) = nearest(planes, hard, 0, pref) {
-        return Some(Relief { relief: 0, point });
-    }
-    let mut low = 1;
-    let mut high = GREATEST_RELIEF;
-    let mut point = nearest(planes, hard, high, pref)?;
-    while low < high {
-        // Most reliefs are small, so the steps double until one is enough, and halve from there on.
-        let relief = ((low + high) / 2).min(2 * low);
-        match nearest(planes, hard, relief, pref) {
-            Some(nearer) => {
-                point = nearer;
-                high = relief;
-            }
-            None => low = relief + 1,
+    let mut relief = 0;
+    while relief <= GREATEST_RELIEF {
+        match optimum(planes, hard, relief, pref) {
+            Ok(point) => return Some(Relief { relief, point }),
+            Err(conflict) => relief = raised_relief(planes, hard, relief, &conflict),
         }
     }
-    Some(Relief {
-        relief: high,
-        point,
-    })
+    None
 }

@@ -2,7 +2,7 @@ use Rattle.std.proofs.Common.{length}
 use Rattle.fixed_vec.specs.Meeting.{relieved_after}
 use Rattle.planar_program.specs.Taken.{IsTaken}
 use Rattle.planar_program.proofs.Steps.{IsBest}
-use Rattle.planar_program.proofs.optimum.nearest.Given as goal
+use Rattle.planar_program.proofs.optimum.optimum.Given as goal
 
 abbrev pub invariant-loop-place : goal.invariant-loop-place
 invariant-loop-place l = record { best : IsBest (IsTaken (relieved_after l.hard l.relief l.planes) l.hard l.place 0) l.pref l.best }

@@ -1,30 +1,30 @@
 use Rattle.std.proofs.Common.{refl}
 use Rattle.std.proofs.lemmas.Bool.{false≢true}
 use Rattle.planar_line.proofs.Stretch.{turned, lowered-same, lowered-none, lowered-stretch, lowered-exact}
-use Rattle.planar_line.proofs.span.Span.lowered.Goals as goal
+use Rattle.planar_line.proofs.span.Span.lower.Goals as goal
 
 pub returns-then-is_end_in-clause-exact : goal.returns-then-is_end_in-clause-exact
 returns-then-is_end_in-clause-exact c =
     let falls = rw (← c.self.view_is) at c.requires in
     let same = lowered-same _ c.args.plane.now c.self.invariant falls (c.if-is_end_in.ensures.0 refl) in
-    rw (← c.self.view_is) (λ p. (λ w. (w, same p w), λ b. b.0))
+    rw (← c.self.view_is) (λ t p. (λ w. (w, same p w), λ b. b.0))
 
 pub returns-then-not-is_no_end_out-clause-none : goal.returns-then-not-is_no_end_out-clause-none
 returns-then-not-is_no_end_out-clause-none c =
     let falls = rw (← c.self.view_is) at c.requires in
-    rw (← c.self.view_is) (lowered-none _ c.args.plane.now c.self.invariant falls (λ h. false≢true (c.if-not-is_no_end_out.ensures.1 h)))
+    rw (← c.self.view_is) (λ t. lowered-none _ c.args.plane.now c.self.invariant falls (λ h. false≢true (c.if-not-is_no_end_out.ensures.1 h)))
 
-pub crossing-end-requires : goal.crossing-end-requires
-crossing-end-requires c =
+pub crossing-requires : goal.crossing-requires
+crossing-requires c =
     let falls = rw (← c.self.view_is) at c.requires in
     turned c.self.inside.border c.args.plane.now falls
 
-pub invariant_of-result : goal.invariant_of-result
-invariant_of-result c =
+pub invariant_of-self-2 : goal.invariant_of-self-2
+invariant_of-self-2 c =
     let falls = rw (← c.self.view_is) at c.requires in
-    rw c.crossing-end.ensures (lowered-stretch _ c.args.plane.now c.self.invariant falls (c.if-not-is_no_end_out.ensures.0 refl))
+    rw c.crossing.ensures (lowered-stretch _ c.args.plane.now c.self.invariant falls (c.if-not-is_no_end_out.ensures.0 refl))
 
 pub returns-clause-exact : goal.returns-clause-exact
 returns-clause-exact c =
     let falls = rw (← c.self.view_is) at c.requires in
-    rw (← c.self.view_is, c.crossing-end.ensures) (lowered-exact _ c.args.plane.now c.self.invariant falls (λ h. false≢true (c.if-is_end_in.ensures.1 h)))
+    rw (← c.self.view_is, c.crossing.ensures) (λ t. lowered-exact _ c.args.plane.now c.self.invariant falls (λ h. false≢true (c.if-is_end_in.ensures.1 h)))
