@@ -1,5 +1,4 @@
 -- Faults as C sees them.
-use Rattle.std.specs.Prelude.{ℕ}
 use Rattle.array_step.specs.declared.fault.ArrayFault.{ArrayFault}
 use Rattle.array_step.specs.declared.fault.ArrayFault.TheVariants.{NoSuchRing, TooManyAgents, AgentOutOfRange, TooManySegments, SegmentOutOfRange, AgentOnSegment}
 use Rattle.crowd_c.specs.declared.fault.CrowdFault.{CrowdFault}
