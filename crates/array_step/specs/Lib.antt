@@ -1,0 +1,5 @@
+pub mod Arrays
+pub mod Faults
+pub mod Steps
+pub mod Laws
+pub mod Ready
