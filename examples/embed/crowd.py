@@ -53,7 +53,10 @@ class Refused(ValueError):
 def _find():
     here = os.path.dirname(os.path.abspath(__file__))
     places = [os.environ.get("CROWD_LIBRARY"), os.path.join(here, "libcrowd.so"), os.path.join(here, "out", "libcrowd.so")]
-    return next(place for place in places if place and os.path.exists(place))
+    found = [place for place in places if place and os.path.exists(place)]
+    if not found:
+        raise OSError("libcrowd.so isn't here: examples/embed/build makes it, and CROWD_LIBRARY may name it")
+    return found[0]
 
 
 _library = ctypes.CDLL(_find())

@@ -1,6 +1,6 @@
 /* Random calls of the library against the program and against limits that are written anew here.
  *
- *     fuzz PROGRAM CALLS [SEED]
+ *     fuzz PROGRAM CALLS [SEED]        PROGRAM may be -, for the limits alone
  *
  * Each round makes a small crowd, now and then with numbers that are out of range, and steps it up to ten times.
  * The program reads the same crowd as a scenario of so many steps: what it prints or why it refuses must be what
@@ -172,6 +172,20 @@ static void write_scenario(const Crowd *crowd, const char *path)
     fclose(file);
 }
 
+/* What the program prints of a crowd, with what it says of a refusal. */
+static FILE *run_program(const char *program_path, const char *path, const Crowd *crowd)
+{
+    char command[1024];
+    if (strcmp(program_path, "-") == 0)
+        return NULL;
+    write_scenario(crowd, path);
+    snprintf(command, sizeof command, "'%s' run < '%s' 2>&1", program_path, path);
+    FILE *program = popen(command, "r");
+    if (program == NULL)
+        exit(2);
+    return program;
+}
+
 /* How the program tells of a fault. */
 static void told(const Crowd *crowd, CrowdFault fault, char *line, size_t size)
 {
@@ -287,19 +301,15 @@ static int steps_well(Crowd *crowd, CrowdFault *fault)
 static int try_one(const char *program_path, const char *path)
 {
     static Crowd crowd;
-    char command[1024], line[256];
+    char line[256];
     CrowdFault fault = {0, 0, 0, 0};
     int well = 1;
 
     memset(&crowd, 0, sizeof crowd);
     make_crowd(&crowd);
-    write_scenario(&crowd, path);
-    snprintf(command, sizeof command, "'%s' run < '%s' 2>&1", program_path, path);
-    FILE *program = popen(command, "r");
-    if (program == NULL)
-        exit(2);
+    FILE *program = run_program(program_path, path, &crowd);
     const uint32_t cause = first_fault(&crowd).cause;
-    if (cause == 0)
+    if (program != NULL && cause == 0)
         well = passes_start(program, &crowd);
     for (uint32_t number = 1; well && number <= crowd.steps; number++) {
         well = steps_well(&crowd, &fault);
@@ -308,14 +318,15 @@ static int try_one(const char *program_path, const char *path)
             break;
         if (fault.cause != 9) {
             told(&crowd, fault, line, sizeof line);
-            well = well && is_next(program, line);
+            well = well && (program == NULL || is_next(program, line));
             break;
         }
-        well = well && prints_frame(program, &crowd, number);
+        well = well && (program == NULL || prints_frame(program, &crowd, number));
     }
-    while (fgets(line, sizeof line, program) != NULL)
+    while (program != NULL && fgets(line, sizeof line, program) != NULL)
         ;
-    pclose(program);
+    if (program != NULL)
+        pclose(program);
     return well;
 }
 
