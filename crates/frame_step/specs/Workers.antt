@@ -3,6 +3,7 @@ use Rattle.std.specs.Prelude.{◌≡◌, ℕ, ◌+◌, ◌-◌, ◌*◌, ◌≤�
 use Rattle.atomic_table.specs.Seated.{TableId}
 use Rattle.agent_step.specs.Frozen.{FrozenState, most_planes}
 use Rattle.crowd_data.specs.Scenario.{Parts}
+use Rattle.crossbeam_utils.specs.Padded.{padded_value}
 use Rattle.work_claim.specs.declared.view.RoundView.{RoundView}
 use Rattle.work_claim.specs.Names.{claimer_id, claimer_view, claims_id, root_id, root_view}
 use Rattle.work_claim.specs.Views.{IsAllBack, lent, most_claimers}
@@ -17,8 +18,12 @@ pub record IsDeskFor (scenario : Parts) (pieces : ℕ) (desk : Desk) : Type 0 wh
   pub count : length desk.bodies.items ≡ length scenario.agents
   pub planes : most_planes (length scenario.segments) ≤ desk.scratch
 
+-- a worker's desk
+abbrev pub desk_of : Worker → Desk
+desk_of worker = padded_value worker.desk
+
 abbrev pub IsWorkerFor : Parts → ℕ → Worker → Type 0
-IsWorkerFor scenario pieces worker = IsDeskFor scenario pieces worker.desk
+IsWorkerFor scenario pieces worker = IsDeskFor scenario pieces (desk_of worker)
 
 -- a claimer's view once it drew these numbers, and found no more
 abbrev pub after_drawing : RoundView → List ℕ → RoundView
@@ -34,15 +39,15 @@ with_worker v numbers = record v { parts = v.parts + 1; ends = v.ends + 1; drawn
 
 -- a worker that has a claimer of the round, and hasn't drawn
 pub record IsEquipped (id : TableId) (round : RoundView) (scenario : Parts) (worker : Worker) : Type 0 where
-  pub room : IsDeskFor scenario round.pieces worker.desk
-  pub none : worker.desk.drawn.items ≡ []
+  pub room : IsDeskFor scenario round.pieces (desk_of worker)
+  pub none : (desk_of worker).drawn.items ≡ []
   pub claimer : IsSomeAnd worker.claimer (λ c. (claimer_id c ≡ id) × (claimer_view c ≡ lent round))
 
 -- a worker that drew pieces until there were no more, and moved the bodies of their agents
 pub record HasWorked (id : TableId) (round : RoundView) (state : FrozenState) (worker : Worker) : Type 0 where
-  pub room : IsDeskFor state.scenario round.pieces worker.desk
-  pub moved : All (IsPieceMoved state worker.desk.bodies.items) worker.desk.drawn.items
-  pub claimer : IsSomeAnd worker.claimer (λ c. (claimer_id c ≡ id) × (claimer_view c ≡ after_drawing (lent round) worker.desk.drawn.items))
+  pub room : IsDeskFor state.scenario round.pieces (desk_of worker)
+  pub moved : All (IsPieceMoved state (desk_of worker).bodies.items) (desk_of worker).drawn.items
+  pub claimer : IsSomeAnd worker.claimer (λ c. (claimer_id c ≡ id) × (claimer_view c ≡ after_drawing (lent round) (desk_of worker).drawn.items))
 
 -- the workers between two steps of a scenario, after at most so many rounds
 pub record IsTeam (scenario : Parts) (most : ℕ) (team : Team) : Type 0 where

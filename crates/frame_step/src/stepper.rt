@@ -53,9 +53,10 @@ impl Stepper {
         ensures frame { IfOk result (λ s. s.frame ≡ start_of scenario) }
     {
         let agents = scenario.agents().len();
+        // The counter that the workers share is opened first, apart from the walls, which all of them read.
+        let team = Team::open(alloc, &scenario, workers)?;
         let polygons = Polygons::open(alloc, &scenario)?;
         let walls = WallBlocks::open(alloc, scenario.segments())?;
-        let team = Team::open(alloc, &scenario, workers)?;
         let frame = first_frame(alloc, &scenario)?;
         let next = first_frame(alloc, &scenario)?.bodies;
         let mut places = List::with_room(alloc, agents)?;

@@ -9,6 +9,7 @@ ghost use Rattle.frame_step.specs.Workers.{IsDeskFor, IsWorkerFor, HasWorked, Is
 use crate::limits::FIRST_WORKER;
 use crate::moves::move_piece;
 use agent_step::{FrozenCrowd, Scratch};
+use crossbeam_utils::CachePadded;
 use crowd_data::{Body, Frame, Scenario, first_frame};
 use fixed_vec::{List, NoMemory};
 use outside_io::Gate;
@@ -24,11 +25,12 @@ pub(crate) struct Desk {
     pub scratch: Scratch,
 }
 
-/// A worker. It has a claimer in a step alone.
+/// A worker. It has a claimer in a step alone. Its desk has cache lines of its own, so that what one worker writes
+/// in a step takes no line from another one.
 #[derive(Drop)]
 pub(crate) struct Worker {
     pub claimer: Option<Claimer>,
-    pub desk: Desk,
+    pub desk: CachePadded<Desk>,
 }
 
 impl Worker {
@@ -43,7 +45,7 @@ impl Worker {
         };
         Ok(Worker {
             claimer: None,
-            desk,
+            desk: CachePadded::new(desk),
         })
     }
 }

@@ -5,7 +5,7 @@ use mathlib.Core.Logic.{dite}
 use Rattle.work_claim.specs.Names.{claims_id, root_view}
 use Rattle.work_claim.specs.declared.view.RoundView.{RoundView}
 use Rattle.frame_step.specs.Moved.{CoversMoved}
-use Rattle.frame_step.specs.Workers.{HasWorked}
+use Rattle.frame_step.specs.Workers.{HasWorked, desk_of}
 use Rattle.frame_step.specs.declared.worker.Worker.{Worker}
 use Rattle.frame_step.proofs.Pieces.{all_covered, covers_more}
 use Rattle.frame_step.proofs.team.take_all_in.Goals as goal
@@ -19,7 +19,7 @@ loop-i-preserved c =
     let inside : i < length workers = omega (arith, c.loop-i-test.true, so_far.count) in
     let worker = slice_index_or workers i c.index-workers-i.result in
     let new = c.take_in.new.worker in
-    let drawn = worker.desk.drawn.items in
+    let drawn = (desk_of worker).drawn.items in
     let before = (root_view c.loop-i.root).drawn in
     record {
       id = m.claims ∙ so_far.id;
