@@ -117,6 +117,16 @@ fn advise_fully(crowd: &FrozenCrowd, who: usize, near: &[Near], scratch: &mut Sc
     advise_among(planes.items(), hard, &agent)
 }
 
+// Whether an agent would like to go faster than it may. Nothing rests on it.
+fn is_fast(agent: &Agent) -> bool
+    requires { IsVelocity agent.now.pref }
+{
+    let across = agent.pref.x.unsigned_abs();
+    let along = agent.pref.y.unsigned_abs();
+    let speed = u64::from(agent.speed);
+    across * across + along * along > speed * speed
+}
+
 // What an agent does that sees these neighbours, but for the mark Crowded.
 fn advise_against(crowd: &FrozenCrowd, who: usize, near: &[Near], scratch: &mut Scratch) -> Advice
     requires who { who < length crowd.now.scenario.agents }
@@ -127,7 +137,11 @@ fn advise_against(crowd: &FrozenCrowd, who: usize, near: &[Near], scratch: &mut 
     ensures limits { KeepsLimits (agent_at crowd.now.scenario.agents who).speed result.vel result.relief }
     ensures room { scratch.new ≡ scratch.old }
 {
-    // Most agents' polygons don't bind them, and are left out.
+    // The polygons of fast agents mostly bind them.
+    if is_fast(&crowd.agent(who)) {
+        return advise_fully(crowd, who, near, scratch);
+    }
+    // Those of others mostly don't, and are left out.
     match advise_freely(crowd, who, near, scratch) {
         Some(advice) => advice,
         None => advise_fully(crowd, who, near, scratch),

@@ -22,10 +22,11 @@ convex-meeting planes = record {
   };
 }
 
-pub convex-taken : (planes : List Plane) (hard soft_end hard_end : ℕ) → IsConvex (IsTaken planes hard soft_end hard_end)
-convex-taken planes hard soft_end hard_end = record {
+pub convex-taken : (planes : List Plane) (hard head head_end soft_end hard_end : ℕ) → IsConvex (IsTaken planes hard head head_end soft_end hard_end)
+convex-taken planes hard head head_end soft_end hard_end = record {
   point = λ p t. t.soft.point;
   between = λ α β v o hα hβ tv to. record {
+    first = (convex-meeting (slice_range planes head head_end)).between α β v o hα hβ tv.first to.first;
     soft = (convex-meeting (slice_range planes hard soft_end)).between α β v o hα hβ tv.soft to.soft;
     firm = (convex-meeting (slice_range planes 0 hard_end)).between α β v o hα hβ tv.firm to.firm;
   };
@@ -44,22 +45,27 @@ module _ (planes : List Plane) where
   meeting_none : (from : ℕ) (p : Rational) → from ≤ length planes → IsPoint p → Meeting (slice_range planes from from) p
   meeting_none from p le point = range_meeting planes from from (omega arith) le p point (range_none planes from p)
 
-  module _ (hard : ℕ) (le : hard ≤ length planes) where
-    pub taken_none : (p : Rational) → IsPoint p → IsTaken planes hard hard 0 p
-    taken_none p point = record { soft = meeting_none hard p le point; firm = meeting_none 0 p (omega arith) point }
+  module _ (hard head : ℕ) (le : hard ≤ length planes) (early : head ≤ length planes) where
+    pub taken_none : (p : Rational) → IsPoint p → IsTaken planes hard head head hard 0 p
+    taken_none p point = record { first = meeting_none head p early point; soft = meeting_none hard p le point; firm = meeting_none 0 p (omega arith) point }
 
-    pub soft_more : (k : ℕ) (p : Rational) → hard ≤ k → k < length planes → IsTaken planes hard (k + 1) 0 p ↔ (IsTaken planes hard k 0 p × IsIn (get_or planes k no_plane) p)
-    soft_more k p start l =
+    pub first_more : (k : ℕ) (p : Rational) → head ≤ k → k < length planes → IsTaken planes hard head (k + 1) hard 0 p ↔ (IsTaken planes hard head k hard 0 p × IsIn (get_or planes k no_plane) p)
+    first_more k p start l =
+        let more = meeting_more head k p start l in
+        (λ t. let b = more.0 t.first in (record { first = b.0; soft = t.soft; firm = t.firm }, b.1), λ b. record { first = more.1 (b.0.first, b.1); soft = b.0.soft; firm = b.0.firm })
+
+    pub soft_more : (head_end k : ℕ) (p : Rational) → hard ≤ k → k < length planes → IsTaken planes hard head head_end (k + 1) 0 p ↔ (IsTaken planes hard head head_end k 0 p × IsIn (get_or planes k no_plane) p)
+    soft_more head_end k p start l =
         let more = meeting_more hard k p start l in
-        (λ t. let b = more.0 t.soft in (record { soft = b.0; firm = t.firm }, b.1), λ b. record { soft = more.1 (b.0.soft, b.1); firm = b.0.firm })
+        (λ t. let b = more.0 t.soft in (record { first = t.first; soft = b.0; firm = t.firm }, b.1), λ b. record { first = b.0.first; soft = more.1 (b.0.soft, b.1); firm = b.0.firm })
 
-    pub firm_more : (soft_end k : ℕ) (p : Rational) → k < length planes → IsTaken planes hard soft_end (k + 1) p ↔ (IsTaken planes hard soft_end k p × IsIn (get_or planes k no_plane) p)
-    firm_more soft_end k p l =
+    pub firm_more : (head_end soft_end k : ℕ) (p : Rational) → k < length planes → IsTaken planes hard head head_end soft_end (k + 1) p ↔ (IsTaken planes hard head head_end soft_end k p × IsIn (get_or planes k no_plane) p)
+    firm_more head_end soft_end k p l =
         let more = meeting_more 0 k p (omega arith) l in
-        (λ t. let b = more.0 t.firm in (record { soft = t.soft; firm = b.0 }, b.1), λ b. record { soft = b.0.soft; firm = more.1 (b.0.firm, b.1) })
+        (λ t. let b = more.0 t.firm in (record { first = t.first; soft = t.soft; firm = b.0 }, b.1), λ b. record { first = b.0.first; soft = b.0.soft; firm = more.1 (b.0.firm, b.1) })
 
-    pub taken_meeting : (soft_end hard_end : ℕ) (p : Rational) → soft_end ≡ length planes → hard_end ≡ hard → IsTaken planes hard soft_end hard_end p → Meeting planes p
-    taken_meeting soft_end hard_end p all_soft all_hard t =
+    pub taken_meeting : (head_end soft_end hard_end : ℕ) (p : Rational) → soft_end ≡ length planes → hard_end ≡ hard → IsTaken planes hard head head_end soft_end hard_end p → Meeting planes p
+    taken_meeting head_end soft_end hard_end p all_soft all_hard t =
         let soft = meeting_range planes hard soft_end (omega arith) (omega arith) p t.soft in
         let firm = meeting_range planes 0 hard_end (omega arith) (omega arith) p t.firm in
         record {
@@ -69,33 +75,34 @@ module _ (planes : List Plane) where
               (⊎_elim (λ a. firm.at k (omega arith) (omega arith)) (λ a. soft.at k a (omega arith)) (cases_lt k hard));
         }
 
-    pub meeting_taken : (soft_end hard_end : ℕ) (p : Rational) → hard ≤ soft_end → soft_end ≤ length planes → hard_end ≤ length planes → Meeting planes p → IsTaken planes hard soft_end hard_end p
-    meeting_taken soft_end hard_end p start end last m =
+    pub meeting_taken : (head_end soft_end hard_end : ℕ) (p : Rational) → head ≤ head_end → head_end ≤ length planes → hard ≤ soft_end → soft_end ≤ length planes → hard_end ≤ length planes → Meeting planes p → IsTaken planes hard head head_end soft_end hard_end p
+    meeting_taken head_end soft_end hard_end p order within start end last m =
         let at : (k : ℕ) → k < length planes → IsIn (get_or planes k no_plane) p = λ k l. m.inside k no_plane l in
         record {
+          first = range_meeting planes head head_end order within p m.point (record { at = λ k a l. at k (omega arith) });
           soft = range_meeting planes hard soft_end start end p m.point (record { at = λ k a l. at k (omega arith) });
           firm = range_meeting planes 0 hard_end (omega arith) last p m.point (record { at = λ k a l. at k (omega arith) });
         }
 
 -- ---- one more half-plane, at a place; B has the points taken that are in it
-module _ (planes : List Plane) (place hard soft_end hard_end : ℕ) (B : Rational → Type 0)
-    (part : (p : Rational) → B p ↔ (IsTaken planes hard soft_end hard_end p × IsIn (get_or planes place no_plane) p))
-    (pref : V2) (o : Rational) (best : IsBest (IsTaken planes hard soft_end hard_end) pref o) where
+module _ (planes : List Plane) (place hard head head_end soft_end hard_end : ℕ) (B : Rational → Type 0)
+    (part : (p : Rational) → B p ↔ (IsTaken planes hard head head_end soft_end hard_end p × IsIn (get_or planes place no_plane) p))
+    (pref : V2) (o : Rational) (best : IsBest (IsTaken planes hard head head_end soft_end hard_end) pref o) where
   pub step-kept : IsIn (get_or planes place no_plane) o → IsBest B pref o
-  step-kept inside = kept (IsTaken planes hard soft_end hard_end) B (get_or planes place no_plane) part pref o best inside
+  step-kept inside = kept (IsTaken planes hard head head_end soft_end hard_end) B (get_or planes place no_plane) part pref o best inside
 
-  pub step-moved : (IsIn (get_or planes place no_plane) o → ⊥) → (m : Rational) → BestOnBorder planes place hard soft_end hard_end pref m → IsBest B pref m
+  pub step-moved : (IsIn (get_or planes place no_plane) o → ⊥) → (m : Rational) → BestOnBorder planes place hard head head_end soft_end hard_end pref m → IsBest B pref m
   step-moved out m new =
-      moved (IsTaken planes hard soft_end hard_end) B (get_or planes place no_plane) part (convex-taken planes hard soft_end hard_end) o best.inside out pref m best.toward
+      moved (IsTaken planes hard head head_end soft_end hard_end) B (get_or planes place no_plane) part (convex-taken planes hard head head_end soft_end hard_end) o best.inside out pref m best.toward
       new.point.on new.point.taken (λ v on taken. new.toward v (record { on = on; taken = taken }))
 
-  pub step-emptied : (IsIn (get_or planes place no_plane) o → ⊥) → ((v : Rational) → IsOnTaken planes place hard soft_end hard_end v → ⊥) → (v : Rational) → B v → ⊥
+  pub step-emptied : (IsIn (get_or planes place no_plane) o → ⊥) → ((v : Rational) → IsOnTaken planes place hard head head_end soft_end hard_end v → ⊥) → (v : Rational) → B v → ⊥
   step-emptied out none =
-      emptied (IsTaken planes hard soft_end hard_end) B (get_or planes place no_plane) part (convex-taken planes hard soft_end hard_end) o best.inside out
+      emptied (IsTaken planes hard head head_end soft_end hard_end) B (get_or planes place no_plane) part (convex-taken planes hard head head_end soft_end hard_end) o best.inside out
       (λ v on taken. none v (record { on = on; taken = taken }))
 
 -- with nothing taken, pref itself is best
-pub best-start : (planes : List Plane) (hard : ℕ) (pref : V2) (o : Rational) → hard ≤ length planes → o ≡ whole pref → IsBest (IsTaken planes hard hard 0) pref o
-best-start planes hard pref o le same =
+pub best-start : (planes : List Plane) (hard head : ℕ) (pref : V2) (o : Rational) → hard ≤ length planes → head ≤ length planes → o ≡ whole pref → IsBest (IsTaken planes hard head head hard 0) pref o
+best-start planes hard head pref o le early same =
     let point : IsPoint (whole pref) = omega (arith, ints) in
-    subst (IsBest (IsTaken planes hard hard 0) pref) (sym same) (record { inside = taken_none planes hard le (whole pref) point; toward = λ v t. start-toward pref v })
+    subst (IsBest (IsTaken planes hard head head hard 0) pref) (sym same) (record { inside = taken_none planes hard head le early (whole pref) point; toward = λ v t. start-toward pref v })

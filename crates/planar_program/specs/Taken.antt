@@ -8,17 +8,19 @@ use Rattle.fixed_vec.specs.Meeting.{Meeting}
 use Rattle.planar_line.specs.Border.{IsOnBorder, toward}
 use Rattle.planar_line.specs.Relief.{no_plane}
 
--- p is in each soft half-plane up to the place `soft_end`, and in each hard one up to `hard_end`
-pub record IsTaken (planes : List Plane) (hard soft_end hard_end : ℕ) (p : Rational) : Type 0 where
+-- p is in the half-planes from the place `head` up to `head_end`, which come first, in each soft one up to the place
+-- `soft_end`, and in each hard one up to `hard_end`
+pub record IsTaken (planes : List Plane) (hard head head_end soft_end hard_end : ℕ) (p : Rational) : Type 0 where
+  pub first : Meeting (slice_range planes head head_end) p
   pub soft : Meeting (slice_range planes hard soft_end) p
   pub firm : Meeting (slice_range planes 0 hard_end) p
 
 -- p is on the border of the half-plane at a place, and in each half-plane taken
-pub record IsOnTaken (planes : List Plane) (place hard soft_end hard_end : ℕ) (p : Rational) : Type 0 where
+pub record IsOnTaken (planes : List Plane) (place hard head head_end soft_end hard_end : ℕ) (p : Rational) : Type 0 where
   pub on : IsOnBorder (slice_index_or planes place no_plane) p
-  pub taken : IsTaken planes hard soft_end hard_end p
+  pub taken : IsTaken planes hard head head_end soft_end hard_end p
 
 -- p is such a point, and no other lies on the side of pref
-pub record BestOnBorder (planes : List Plane) (place hard soft_end hard_end : ℕ) (pref : V2) (p : Rational) : Type 0 where
-  pub point : IsOnTaken planes place hard soft_end hard_end p
-  pub toward : (v : Rational) → IsOnTaken planes place hard soft_end hard_end v → toward pref p v ≤ℤ pos 0
+pub record BestOnBorder (planes : List Plane) (place hard head head_end soft_end hard_end : ℕ) (pref : V2) (p : Rational) : Type 0 where
+  pub point : IsOnTaken planes place hard head head_end soft_end hard_end p
+  pub toward : (v : Rational) → IsOnTaken planes place hard head head_end soft_end hard_end v → toward pref p v ≤ℤ pos 0

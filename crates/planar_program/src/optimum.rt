@@ -9,32 +9,57 @@ ghost use Rattle.planar_program.specs.Taken.{BestOnBorder, IsOnTaken};
 use fixed_vec::{HalfPlane, Point, V2};
 use planar_line::{Conflict, Span, contains_at, plane_at};
 
-// The best point on the border of the half-plane at `place`, among those in each half-plane taken: the
-// soft ones up to the place `soft_end`, and the hard ones up to `hard_end`.
+// The place of the hard half-plane that a whole point is farthest out of, or `hard` if it is in all of them.
+// Nothing rests on it.
+fn farthest_out(planes: &[HalfPlane], hard: usize, at: V2) -> usize
+    requires hard { hard ≤ length planes.now }
+    ensures { result ≤ hard }
+{
+    let mut farthest = hard;
+    let mut most = 0;
+    for k in 0..hard {
+        let n = planes[k].n();
+        let reach = n.x.wrapping_mul(at.x).wrapping_add(n.y.wrapping_mul(at.y));
+        let out = (planes[k].c() as i64).wrapping_sub(reach);
+        if out > most {
+            most = out;
+            farthest = k;
+        }
+    }
+    farthest
+}
+
+// The best point on the border of the half-plane at `place`, among those in each half-plane taken: those from
+// the place `head` up to `head_end`, the soft ones up to `soft_end`, and the hard ones up to `hard_end`.
 fn best_on_border(
     planes: &[HalfPlane],
     hard: usize,
     relief: u32,
     place: usize,
+    head: usize,
+    head_end: usize,
     soft_end: usize,
     hard_end: usize,
     pref: V2,
 ) -> Result<Point, Conflict>
     requires place { place < length planes.now }
     requires hard { hard ≤ length planes.now }
+    requires head { head ≤ head_end }
+    requires head_end { head_end ≤ length planes.now }
     requires soft_start { hard ≤ soft_end }
     requires soft_end { soft_end ≤ length planes.now }
     requires hard_end { hard_end ≤ length planes.now }
     requires pref { IsPreference pref }
     requires bounds { KeepBounds hard relief planes.now }
     ensures best { IfOk result
-        (BestOnBorder (relieved_after hard relief planes.now) place hard soft_end hard_end pref) }
+        (BestOnBorder (relieved_after hard relief planes.now) place hard head head_end soft_end hard_end pref) }
     ensures none { IfErr result
         (λ _. (v : Rational)
-        → IsOnTaken (relieved_after hard relief planes.now) place hard soft_end hard_end v → ⊥) }
+        → IsOnTaken (relieved_after hard relief planes.now) place hard head head_end soft_end hard_end v → ⊥) }
 {
     let border = plane_at(planes, hard, relief, place);
     let mut span = Span::whole(&border, place);
+    span.narrow(planes, hard, relief, head, head_end)?;
     span.narrow(planes, hard, relief, hard, soft_end)?;
     span.narrow(planes, hard, relief, 0, hard_end)?;
     Ok(span.nearest(pref))
@@ -60,16 +85,26 @@ pub(crate) fn optimum(
 {
     let count = planes.len();
     let mut best = Point::of(pref.x as i128, pref.y as i128, 1);
-    // The soft half-planes come first, since each that moves the best point looks at all before it, and
-    // the hard ones seldom move it. The order changes nothing in the result.
+    // Each half-plane that moves the best point looks at all before it. So the hard one that does so most comes
+    // first, then the soft ones, and the other hard ones, which seldom do, last. The order changes nothing in
+    // the result.
+    let head = farthest_out(planes, hard, pref);
+    let head_end = hard.min(head + 1);
+    for place in head..head_end {
+        if !contains_at(planes, hard, relief, place, &best) {
+            best = best_on_border(planes, hard, relief, place, head, place, hard, 0, pref)?;
+        }
+    }
     for place in hard..count {
         if !contains_at(planes, hard, relief, place, &best) {
-            best = best_on_border(planes, hard, relief, place, place, 0, pref)?;
+            best = best_on_border(planes, hard, relief, place, head, head_end, place, 0, pref)?;
         }
     }
     for place in 0..hard {
         if !contains_at(planes, hard, relief, place, &best) {
-            best = best_on_border(planes, hard, relief, place, count, place, pref)?;
+            best = best_on_border(
+                planes, hard, relief, place, head, head_end, count, place, pref,
+            )?;
         }
     }
     Ok(best)

@@ -68,6 +68,25 @@ fn least_of_hard(first: HalfPlane, second: HalfPlane, pref: V2) -> Option<Relief
     least_relief(&[first, second], 2, pref)
 }
 
+// The least relief of three half-planes, as above.
+fn least_of_three(
+    rt: &impl Abort,
+    first: HalfPlane,
+    second: HalfPlane,
+    third: HalfPlane,
+    hard: usize,
+) -> Option<Relief>
+    requires first { HasReliefRoom first }
+    requires second { HasReliefRoom second }
+    requires third { HasReliefRoom third }
+    requires hard { hard ≤ 3 }
+{
+    let planes = [first, second, third];
+    let far = Point::of(10, 10, 1);
+    assert!(rt; meets(&planes, hard, GREATEST_RELIEF, &far));
+    least_relief(&planes, hard, ZERO)
+}
+
 // Whether the point is (x, y).
 fn is_at(point: &Point, x: i128, y: i128) -> bool {
     let q = point.q();
@@ -159,4 +178,16 @@ fn reliefs_of_each_size(rt: HostRuntime) {
 fn relief_by_whole_lengths(rt: HostRuntime) {
     let least = least_of(&rt, plane(-1, -1, 0), plane(1, 1, 10), 1, ZERO);
     assert!(rt; is_least(least, 5, 0, 0));
+}
+
+// x >= 10, y >= 10 and x + y <= 12 lack 8, for which a unit of relief makes up by 1, 1 and 2: two units make up
+// for all of it. Where the first is hard, three are needed.
+#[test]
+fn three_that_exclude_each_other(rt: HostRuntime) {
+    let right = plane(1, 0, 10);
+    let up = plane(0, 1, 10);
+    let back = plane(-1, -1, -12);
+    assert!(rt; is_least(least_of_three(&rt, right, up, back, 0), 2, 8, 8));
+    assert!(rt; is_least(least_of_three(&rt, back, up, right, 0), 2, 8, 8));
+    assert!(rt; is_least(least_of_three(&rt, right, up, back, 1), 3, 10, 7));
 }

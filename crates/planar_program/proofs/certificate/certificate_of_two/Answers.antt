@@ -1,6 +1,5 @@
 use Rattle.std.specs.Int.{w128}
 use Rattle.std.proofs.Common.{◌≡◌, pos, ◌≤ℤ◌, FitsSigned, to_z-of_z, arith, rules}
-use Rattle.planar_program.specs.Certificate.{FitsParty}
 use Rattle.planar_program.proofs.Certificates.{two_exclude, cross_perp-nonneg, across-fits}
 use Rattle.planar_program.proofs.certificate.certificate_of_two.Goals as goal
 

@@ -1,5 +1,5 @@
 use Rattle.std.specs.Int.{w128}
-use Rattle.std.proofs.Common.{◌≡◌, pos, ◌<ℤ◌, ◌≤ℤ◌, FitsSigned, to_z-of_z, arith, rules}
+use Rattle.std.proofs.Common.{◌≡◌, pos, ◌<ℤ◌, FitsSigned, to_z-of_z, arith, rules}
 use Rattle.std.proofs.lemmas.Int.{ints}
 use Rattle.exact_algebra.specs.Numbers.{ceil}
 use Rattle.planar_program.proofs.Certificates.{too_small_below}

@@ -1,5 +1,5 @@
 use Rattle.std.specs.Int.{w128}
-use Rattle.std.proofs.Common.{[], ◌∷◌, ℕ, ◌^◌, List, ℤ}
+use Rattle.std.proofs.Common.{◌∷◌, ℕ, ◌^◌, List, ℤ}
 use Rattle.exact_algebra.proofs.Machine.{Within, fits, computed, reads}
 use Rattle.fixed_vec.proofs.Sizes.{rows, row_limits, rows_within}
 use Rattle.fixed_vec.specs.HalfPlane.{Plane}
