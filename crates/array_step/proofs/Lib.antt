@@ -1,6 +1,5 @@
 mod FieldLimits
 mod FaultCauses
-mod FirstFrames
 mod StrayAgent
 mod MovedAgents
 mod HandedAgain

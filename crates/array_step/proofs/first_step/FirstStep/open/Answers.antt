@@ -5,14 +5,14 @@ use Rattle.crowd_data.specs.Run.{Snapshot, crowd_of}
 use Rattle.crowd_data.proofs.Frames.{start_present}
 use Rattle.agent_kdtree.specs.Placed.{IsPlaced}
 use Rattle.agent_kdtree.specs.Stands.{StandsFor}
-use Rattle.array_step.proofs.FirstFrames.{all_placed, crowd_of-start}
+use Rattle.agent_step.proofs.FirstFrames.{all_places, crowd_of-start}
 use Rattle.array_step.proofs.first_step.FirstStep.open.Goals as goal
 
 pub tree_over-requires-clause-placed : goal.tree_over-requires-clause-placed
 tree_over-requires-clause-placed c =
     let agents = c.args.scenario.agents in
     let places : c.items.result.now ≡ map place_of agents = c.items.ensures ∙ c.in_ok-places.ensures ∙ ap (map place_of) c.agents.ensures.value in
-    subst (All IsPlaced) (sym places) (all_placed agents c.agents.ensures.valid.agents)
+    subst (All IsPlaced) (sym places) (all_places agents c.agents.ensures.valid.agents)
 
 pub invariant_of-result : goal.invariant_of-result
 invariant_of-result c =
