@@ -13,7 +13,7 @@ use Rattle.published_frames.specs.Names.{reader_seen, reader_source, writer_hist
 use Rattle.live_session.specs.declared.steered.Steered.{Steered}
 use Rattle.outside_io.specs.Sinks.{sink_state}
 use Rattle.live_session.proofs.Lived.{IsLast, left_listed, lived, posters_of_box, readers_of, running_cut_off}
-use Rattle.live_session.proofs.Standing.{controllers_few}
+use Rattle.crowd_data.proofs.Controllers.{controllers_few}
 use Rattle.live_session.proofs.Written.{ended_here}
 use Rattle.live_session.proofs.ending.last_frame.Goals as goal
 

@@ -8,7 +8,7 @@ use Rattle.published_frames.specs.declared.entry.Step.{Step}
 use Rattle.published_frames.specs.Taken.{posts_of}
 use Rattle.outside_io.specs.Sinks.{sink_state}
 use Rattle.live_session.proofs.GoalCount.{goals_few}
-use Rattle.live_session.proofs.Standing.{controllers_few}
+use Rattle.crowd_data.proofs.Controllers.{controllers_few}
 use Rattle.live_session.proofs.Written.{ended_here}
 use Rattle.live_session.proofs.run.run_desk.Goals as goal
 
