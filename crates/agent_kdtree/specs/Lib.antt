@@ -4,6 +4,7 @@ pub mod Gather
 pub mod Boxes
 pub mod Missed
 pub mod Stands
+pub mod CellKeys
 pub mod Cells
 pub mod Windows
 pub mod ByCell

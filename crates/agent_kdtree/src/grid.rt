@@ -1,15 +1,17 @@
 // Places in the order of their cells: neighbours by the cells around.
-ghost use Rattle.std.specs.Prelude.{◌≡◌, ◌+◌, ◌*◌, ◌<◌, ◌≤◌, ◌^◌, ℕ, All, IfSome, IsTrue, length, slice_index_or, take};
+ghost use Rattle.std.specs.Prelude.{◌≡◌, ◌+◌, ◌*◌, ◌<◌, ◌≤◌, ◌^◌, ℕ, All, IfSome, IsTrue, length, map, slice_index_or, take};
 ghost use Rattle.std.specs.List.Sorted.{IsPermutation};
 ghost use Rattle.crowd_data.specs.declared.pair.Place.{Place};
 ghost use Rattle.crowd_data.specs.Neighbours.{place_at};
+ghost use Rattle.agent_kdtree.specs.CellKeys.{IsCellKey};
 ghost use Rattle.agent_kdtree.specs.Cells.{IsOutOfRange, IsStart, IsGrid, IsInMesh, IsMesh, cell_at};
 ghost use Rattle.agent_kdtree.specs.Windows.{IsPiece, IsWindow};
 ghost use Rattle.agent_kdtree.specs.Gather.{IsQuery};
-ghost use Rattle.agent_kdtree.specs.Keys.{seen_of_keys, seen_in_range};
+ghost use Rattle.agent_kdtree.specs.Keys.{low_half, seen_of_keys, seen_in_range};
 ghost use Rattle.agent_kdtree.specs.Placed.{IsPlaced};
 
-use crate::cell::{Mesh, cell, first_line, last_line};
+use crate::cell::{Mesh, first_line, last_line};
+use crate::cell_sort::cell_of_key;
 use crate::collect::collect;
 use crate::query::Query;
 use crowd_data::Place;
@@ -125,8 +127,8 @@ pub(crate) fn sweep(
     Some(count)
 }
 
-// Writes a number at the places from `from` up to `to`.
-fn fill(starts: &mut [u32], from: usize, to: usize, at: u32)
+/// Writes a number at the places from `from` up to `to`.
+pub(crate) fn fill(starts: &mut [u32], from: usize, to: usize, at: u32)
     requires order { from ≤ to }
     requires within { to ≤ length starts.old }
     ensures len { length starts.new ≡ length starts.old }
@@ -138,19 +140,28 @@ fn fill(starts: &mut [u32], from: usize, to: usize, at: u32)
     }
 }
 
-/// Writes where each cell begins, if the places stand in the order of their cells.
-pub(crate) fn find_starts(places: &[Place], mesh: &Mesh, order: &[u32], starts: &mut [u32]) -> bool
-    requires placed { All IsPlaced places.now }
-    requires mesh { IsMesh mesh.now }
-    requires numbers { All (λ k. k < length places.now) order.now }
-    requires in_mesh { All (λ k. IsInMesh mesh.now (place_at places.now k).pos) order.now }
-    requires few { length order.now < 2 ^ 32 }
+// The cell of the key at a place.
+fn cell_of_place(places: &[Place], mesh: &Mesh, keys: &[u64], at: usize) -> usize
+    requires exists { at < length keys.now }
+    requires cells { All (IsCellKey places.now mesh.now) keys.now }
+    ensures value { result ≡ cell_at places.now mesh.now (map low_half keys.now) at }
+    ensures small { result < 2 ^ 32 }
+{
+    let _ = places;
+    let _ = mesh;
+    cell_of_key(keys[at])
+}
+
+/// Writes where each cell begins, if the keys stand in the order of their cells.
+pub(crate) fn find_starts(places: &[Place], mesh: &Mesh, keys: &[u64], starts: &mut [u32]) -> bool
+    requires cells { All (IsCellKey places.now mesh.now) keys.now }
+    requires few { length keys.now < 2 ^ 32 }
     ensures len { length starts.new ≡ length starts.old }
-    ensures begins { IsTrue result → (cell : ℕ) → cell < length starts.new → IsStart places.now mesh.now order.now (length order.now) cell (slice_index_or starts.new cell 0) }
+    ensures begins { IsTrue result → (cell : ℕ) → cell < length starts.new → IsStart places.now mesh.now (map low_half keys.now) (length keys.now) cell (slice_index_or starts.new cell 0) }
 {
     let mut next = 0;
-    for at in 0..order.len() {
-        let cell = cell(mesh, places[order[at] as usize].pos) as usize;
+    for at in 0..keys.len() {
+        let cell = cell_of_place(places, mesh, keys, at);
         if cell + 1 < next || starts.len() <= cell {
             return false;
         }
@@ -158,6 +169,6 @@ pub(crate) fn find_starts(places: &[Place], mesh: &Mesh, order: &[u32], starts: 
         next = cell + 1;
     }
     let count = starts.len();
-    fill(starts, next, count, order.len() as u32);
+    fill(starts, next, count, keys.len() as u32);
     true
 }

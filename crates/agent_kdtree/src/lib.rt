@@ -8,6 +8,7 @@
 
 mod bounds;
 mod cell;
+mod cell_sort;
 mod collect;
 mod distance;
 mod grid;

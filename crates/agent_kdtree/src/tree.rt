@@ -28,8 +28,9 @@ pub struct Tree {
     layout: Layout,
 }
 
-// Agents move little in a step. So the numbers are sorted anew at each 16th rebuild, and the boxes at each.
-const STEPS_BETWEEN_SORTS: u32 = 16;
+// Agents move little in a step, and the tree is seldom asked. So the numbers are sorted anew at each 64th rebuild,
+// and the boxes at each.
+const STEPS_BETWEEN_SORTS: u32 = 64;
 
 /// The numbers 0, 1 and so on, below `count`.
 pub(crate) fn numbered(alloc: Global, count: usize) -> Result<Vec<u32>, NoMemory>
