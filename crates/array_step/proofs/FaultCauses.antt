@@ -1,9 +1,10 @@
 -- Arrays with a fault stand for no scenario.
-use Rattle.std.proofs.Common.{◌≡◌, ◌∙◌, ⊎_elim, ℕ, zero, suc, ◌<◌, ◌≤◌, List, [], ◌∷◌, length, map, Some, slice_get, option_map, arith, ap, refl, subst}
+use Rattle.std.proofs.Common.{◌≡◌, ◌∙◌, ⊎_elim, ℕ, zero, suc, ◌<◌, ◌≤◌, List, [], ◌∷◌, length, map, Some, slice_get, option_map, arith, ap, refl}
 use Rattle.std.specs.List.{All}
 use Rattle.std.proofs.lemmas.List.{length-map}
 use Rattle.std.proofs.lemmas.List.Elements.{All-from_recursion}
-use Rattle.std.proofs.lemmas.Option.{get_or_from_slice_get, slice_get-map, slice_get_within}
+use Rattle.std.proofs.lemmas.Option.{slice_get-map}
+use Rattle.exact_algebra.proofs.Elements.{all_at}
 use Rattle.crowd_data.specs.declared.agent.Agent.{Agent}
 use Rattle.crowd_data.specs.declared.limits.TheConstants.{GREATEST_COORDINATE, GREATEST_WEIGHT}
 use Rattle.crowd_data.specs.Limits.{IsAgent, IsSegment, IsWeight}
@@ -19,9 +20,6 @@ use Rattle.array_step.specs.Arrays.{agent_of, scenario_of, segment_of, weight_of
 use Rattle.array_step.specs.Faults.{IsCoordinateOutside, IsFault, IsFieldOutside, Tells, at, leasts, mosts, reaches_of, sizes_of}
 
 -- ---- items of lists
-
-item_of : {A : Type 0} (P : A → Type 0) (xs : List A) (k : ℕ) (x : A) → All P xs → slice_get xs k ≡ Some x → P x
-item_of P xs k x all e = subst P (get_or_from_slice_get xs k x x e) (all k x (slice_get_within xs k x e))
 
 mapped_item : {A B : Type 0} (f : A → B) (xs : List A) (k : ℕ) (x : A) → slice_get xs k ≡ Some x → slice_get (map f xs) k ≡ Some (f x)
 mapped_item f xs k x e = slice_get-map f xs k ∙ ap (option_map f) e
@@ -103,15 +101,15 @@ module _ (agents : List CrowdAgent) (segments : List CrowdSegment) (ring : ℕ) 
   fault_invalid NoSuchRing none = none valid.ring
   fault_invalid TooManyAgents (known, many) = omega (arith, many, valid.agent_count, length-map agents agent_of)
   fault_invalid (AgentOutOfRange who field) (known, few, o) =
-      agent_inside o.agent field (item_of IsAgent (map agent_of agents) who (agent_of o.agent) valid.agents (mapped_item agent_of agents who o.agent o.agent_is)) o.outside
+      agent_inside o.agent field (all_at IsAgent (map agent_of agents) who (agent_of o.agent) valid.agents (mapped_item agent_of agents who o.agent o.agent_is)) o.outside
   fault_invalid TooManySegments (known, are, many) = omega (arith, many, valid.segment_count, length-map segments segment_of)
   fault_invalid (SegmentOutOfRange which field) (known, are, few, o) =
       segment_inside o.segment field
-      (item_of IsSegment (map segment_of segments) which (segment_of o.segment) valid.segments (mapped_item segment_of segments which o.segment o.segment_is)) o.outside
+      (all_at IsSegment (map segment_of segments) which (segment_of o.segment) valid.segments (mapped_item segment_of segments which o.segment o.segment_is)) o.outside
   fault_invalid (AgentOnSegment who which) (known, are, too, on) =
       on.touched
-      (item_of (IsClear on.agent.pos on.agent.radius) (map segment_of segments) which on.segment
-      (item_of (λ (agent : Agent). All (IsClear agent.pos agent.radius) (map segment_of segments)) (map agent_of agents) who on.agent valid.clear on.agent_is) on.segment_is)
+      (all_at (IsClear on.agent.pos on.agent.radius) (map segment_of segments) which on.segment
+      (all_at (λ (agent : Agent). All (IsClear agent.pos agent.radius) (map segment_of segments)) (map agent_of agents) who on.agent valid.clear on.agent_is) on.segment_is)
 
   pub told_memory : (e : StepFault) → Tells agents segments ring e → e ≡ NoMemory
   told_memory NoMemory told = refl

@@ -1,8 +1,7 @@
 -- Records that are accepted as a scenario have no cause, and stand for no other scenario.
 use Rattle.std.proofs.Common.{◌≡◌, ◌∙◌, inl, inr, sym, ℕ, List, subst, Some, Ok}
-use Rattle.std.specs.Prelude.{slice_get}
 use Rattle.std.specs.List.{All}
-use Rattle.std.proofs.lemmas.Option.{get_or_from_slice_get, slice_get_within}
+use Rattle.exact_algebra.proofs.Elements.{all_at}
 use Rattle.crowd_data.specs.declared.agent.Agent.{Agent}
 use Rattle.crowd_data.specs.Scenario.{Parts}
 use Rattle.crowd_data.specs.Walls.{IsClear}
@@ -10,9 +9,6 @@ use Rattle.scenario_read.specs.declared.cause.Cause.{Cause}
 use Rattle.crowd_data.specs.Standing.{AllClear}
 use Rattle.scenario_read.specs.Reading.{IsAccepted, IsRefusedFor, outcome}
 use Rattle.scenario_read.specs.Records.{Record}
-
-all_at : {A : Type 0} (P : A → Type 0) (xs : List A) (k : ℕ) (x : A) → All P xs → slice_get xs k ≡ Some x → P x
-all_at P xs k x all e = subst P (get_or_from_slice_get xs k x x e) (all k x (slice_get_within xs k x e))
 
 pub same_parts : (rows : List Record) (a b : Parts) → outcome rows ≡ Ok a → outcome rows ≡ Ok b → a ≡ b
 same_parts rows a b e f = let g = sym e ∙ f in cc g
