@@ -8,7 +8,9 @@ use Rattle.fixed_vec.specs.declared.vector.V2.{V2}
 use Rattle.fixed_vec.specs.Vector.{cross, square}
 use Rattle.fixed_vec.specs.HalfPlane.{Plane, FitsPlane}
 use Rattle.fixed_vec.specs.Point.{Rational, FitsPoint}
+use Rattle.planar_line.specs.declared.point64.Point64.{Point64}
 use Rattle.planar_line.specs.Border.{IsPreference, crossing_of, foot_of}
+use Rattle.planar_line.specs.Point64.{Take64Bits}
 
 coordinate_below : (z w : ℤ) → (z *ℤ z) <ℤ pos (2 ^ 64) → unsigned_abs z ≤ 2 ^ 32 - 1
 coordinate_below z w h =
@@ -62,6 +64,21 @@ outlook_limits = side ∷ side ∷ 2 ^ 53 ∷ 16384 ∷ 16384 ∷ []
 
 pub outlook_within : (plane : Plane) (v : V2) → FitsPlane plane → IsPreference v → Within (outlook plane v) outlook_limits
 outlook_within plane v h l = let s = normal_below plane.n h.normal in (s.0, (s.1, (omega (arith, h.offset), (l.across, (l.along, tt)))))
+
+-- ---- a half-plane and a point whose parts take 64 bits
+abbrev half : ℕ
+half = 2 ^ 63 - 1
+
+abbrev pub look : Plane → Point64 → List ℤ
+look plane at = plane.n.x ∷ plane.n.y ∷ plane.c ∷ at.x ∷ at.y ∷ at.q ∷ []
+
+abbrev pub look_limits : List ℕ
+look_limits = side ∷ side ∷ 2 ^ 53 ∷ half ∷ half ∷ half ∷ []
+
+pub look_within : (plane : Plane) (at : Point64) → FitsPlane plane → Take64Bits at.x at.y at.q → Within (look plane at) look_limits
+look_within plane at h k =
+    let s = normal_below plane.n h.normal in
+    (s.0, (s.1, (omega (arith, h.offset), (omega (arith, k.across), (omega (arith, k.along), (omega (arith, k.divisor), tt))))))
 
 -- ---- the points that are made of them
 below : (z : ℤ) (b : ℕ) → unsigned_abs z < b → z <ℤ pos b

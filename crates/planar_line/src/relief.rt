@@ -5,6 +5,7 @@ ghost use Rattle.fixed_vec.specs.Meeting.{relieved_after};
 ghost use Rattle.fixed_vec.specs.Point.{IsIn};
 ghost use Rattle.planar_line.specs.Relief.{CanBeRelieved, KeepBounds, no_plane};
 
+use crate::probe::Probe;
 use fixed_vec::{HalfPlane, Point, side};
 use std::cmp::Ordering;
 
@@ -52,7 +53,7 @@ pub fn contains_at(
     hard: usize,
     relief: u32,
     place: usize,
-    point: &Point,
+    point: &Probe,
 ) -> bool
     requires place { place < length planes.now }
     requires hard { hard ≤ length planes.now }
@@ -61,11 +62,10 @@ pub fn contains_at(
         ↔ IsIn (slice_index_or (relieved_after hard relief planes.now) place no_plane) point.now }
 {
     // A point's denominator is positive, so a half-plane that has it still does when it is relieved.
-    let _q = point.q();
-    if is_in(&planes[place], point) {
+    if point.is_in(&planes[place]) {
         return true;
     }
-    is_relieved(hard, relief, place) && is_in(&plane_at(planes, hard, relief, place), point)
+    is_relieved(hard, relief, place) && point.is_in(&plane_at(planes, hard, relief, place))
 }
 
 /// Whether the point is in the half-plane.

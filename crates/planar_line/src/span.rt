@@ -12,6 +12,7 @@ ghost use Rattle.planar_line.specs.Span.{Stretch, IsStretch, IsOnStretch, IsPart
 use crate::conflict::Conflict;
 use crate::crossing::{crossing, slope};
 use crate::foot::{foot, lead};
+use crate::probe::Probe;
 use crate::relief::{is_in, is_relieved, plane_at};
 use fixed_vec::{HalfPlane, Point, V2};
 use std::marker::Model;
@@ -21,8 +22,8 @@ use std::marker::Model;
 #[derive(Drop)]
 pub struct Span {
     border: HalfPlane,
-    low: Option<Point>,
-    high: Option<Point>,
+    low: Option<Probe>,
+    high: Option<Probe>,
     // The places of the half-planes that made the border and its ends. Nothing rests on them.
     makers: Conflict,
 }
@@ -36,22 +37,22 @@ impl Model for Span {
 }
 
 // Whether there is an end, in the half-plane.
-fn is_end_in(plane: &HalfPlane, end: &Option<Point>) -> bool
+fn is_end_in(plane: &HalfPlane, end: &Option<Probe>) -> bool
     ensures { IsTrue result ↔ IsSomeAnd end.now (IsIn plane.now) }
 {
     match end {
         None => false,
-        Some(point) => is_in(plane, point),
+        Some(point) => point.is_in(plane),
     }
 }
 
 // Whether the end is missing, or in the half-plane.
-fn is_no_end_out(plane: &HalfPlane, end: &Option<Point>) -> bool
+fn is_no_end_out(plane: &HalfPlane, end: &Option<Probe>) -> bool
     ensures { IsTrue result ↔ ForSome end.now (IsIn plane.now) }
 {
     match end {
         None => true,
-        Some(point) => is_in(plane, point),
+        Some(point) => point.is_in(plane),
     }
 }
 
@@ -101,7 +102,7 @@ impl Span {
         if !is_no_end_out(plane, &self.high) {
             return false;
         }
-        self.low = Some(crossing(&self.border, plane));
+        self.low = Some(Probe::of(&crossing(&self.border, plane)));
         true
     }
 
@@ -118,7 +119,7 @@ impl Span {
         if !is_no_end_out(plane, &self.low) {
             return false;
         }
-        self.high = Some(crossing(plane, &self.border));
+        self.high = Some(Probe::of(&crossing(plane, &self.border)));
         true
     }
 
@@ -211,12 +212,14 @@ impl Span {
         ensures toward { (v : Rational) → IsOnStretch self.now v → toward pref result v ≤ℤ pos 0 }
         ensures no_farther { (v : Rational) → IsOnStretch self.now v → IsNoFarther pref result v }
     {
-        if let Some(low) = self.low {
+        if let Some(low) = &self.low {
+            let low = low.point();
             if lead(&self.border, &low, pref) <= 0 {
                 return low;
             }
         }
-        if let Some(high) = self.high {
+        if let Some(high) = &self.high {
+            let high = high.point();
             if lead(&self.border, &high, pref) >= 0 {
                 return high;
             }

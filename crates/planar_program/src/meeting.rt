@@ -4,7 +4,7 @@ ghost use Rattle.fixed_vec.specs.Meeting.{Meeting, relieved_after};
 ghost use Rattle.planar_line.specs.Relief.{KeepBounds};
 
 use fixed_vec::{HalfPlane, Point};
-use planar_line::contains_at;
+use planar_line::{Probe, contains_at};
 
 /// Whether the point is in each half-plane of the list. The first `hard` are taken as they are, and the
 /// others moved back by `relief` lengths of their normals.
@@ -15,8 +15,9 @@ pub fn meets(planes: &[HalfPlane], hard: usize, relief: u32, point: &Point) -> b
 {
     // The reader tells that the denominator is positive.
     let _q = point.q();
+    let probe = Probe::of(point);
     for place in 0..planes.len() {
-        if !contains_at(planes, hard, relief, place, point) {
+        if !contains_at(planes, hard, relief, place, &probe) {
             return false;
         }
     }

@@ -7,7 +7,7 @@ ghost use Rattle.planar_line.specs.Relief.{KeepBounds};
 ghost use Rattle.planar_program.specs.Taken.{BestOnBorder, IsOnTaken};
 
 use fixed_vec::{HalfPlane, Point, V2};
-use planar_line::{Conflict, Span, contains_at, plane_at};
+use planar_line::{Conflict, Probe, Span, contains_at, plane_at};
 
 // The place of the hard half-plane that a whole point is farthest out of, or `hard` if it is in all of them.
 // Nothing rests on it.
@@ -41,7 +41,7 @@ fn best_on_border(
     soft_end: usize,
     hard_end: usize,
     pref: V2,
-) -> Result<Point, Conflict>
+) -> Result<Probe, Conflict>
     requires place { place < length planes.now }
     requires hard { hard ≤ length planes.now }
     requires head { head ≤ head_end }
@@ -62,7 +62,7 @@ fn best_on_border(
     span.narrow(planes, hard, relief, head, head_end)?;
     span.narrow(planes, hard, relief, hard, soft_end)?;
     span.narrow(planes, hard, relief, 0, hard_end)?;
-    Ok(span.nearest(pref))
+    Ok(Probe::of(&span.nearest(pref)))
 }
 
 /// The point nearest to `pref` among those in each half-plane of the list, or the places of half-planes that
@@ -84,7 +84,8 @@ pub(crate) fn optimum(
     ensures none { IfErr result (λ _. IsEmpty (relieved_after hard relief planes.now)) }
 {
     let count = planes.len();
-    let mut best = Point::of(pref.x as i128, pref.y as i128, 1);
+    let start = Point::of(pref.x as i128, pref.y as i128, 1);
+    let mut best = Probe::of(&start);
     // Each half-plane that moves the best point looks at all before it. So the hard one that does so most comes
     // first, then the soft ones, and the other hard ones, which seldom do, last. The order changes nothing in
     // the result.
@@ -107,7 +108,7 @@ pub(crate) fn optimum(
             )?;
         }
     }
-    Ok(best)
+    Ok(best.point())
 }
 
 /// The point nearest to `pref` among those in each half-plane of the list, if there are any. The first

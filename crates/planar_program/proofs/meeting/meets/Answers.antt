@@ -9,7 +9,7 @@ use Rattle.planar_program.proofs.meeting.meets.Goals as goal
 
 pub loop-place-preserved : goal.loop-place-preserved
 loop-place-preserved c = record {
-  inside = range_more (relieved_after c.args.hard c.args.relief c.args.planes.now) 0 c.loop-place.place c.args.point.now c.loop-place.invariant.inside (c.if-not-contains_at.ensures.0 refl);
+  inside = range_more (relieved_after c.args.hard c.args.relief c.args.planes.now) 0 c.loop-place.place c.args.point.now c.loop-place.invariant.inside (rw c.of-probe.ensures at (c.if-not-contains_at.ensures.0 refl));
 }
 
 pub returns : goal.returns

@@ -1,4 +1,4 @@
-use Rattle.std.proofs.Common.{Result, Ok, Err, IsErr, IfErr, ◌≡◌, ◌+◌, length, [], ◌∷◌, refl, subst, arith}
+use Rattle.std.proofs.Common.{Result, Ok, Err, IsErr, IfErr, ◌≡◌, ◌∙◌, ◌+◌, length, [], ◌∷◌, refl, subst, arith}
 use Rattle.std.proofs.lemmas.Bool.{false≢true}
 use Rattle.exact_algebra.proofs.Machine.{computed, reads}
 use Rattle.fixed_vec.specs.Meeting.{IsEmpty, Meeting, relieved_after}
@@ -22,7 +22,7 @@ loop-place-init c =
     let list = relieved_after c.args.hard c.args.relief c.args.planes.now in
     let long = length-relieved_after c.args.hard c.args.relief c.args.planes.now c.requires.hard in
     let pref = c.args.pref in
-    let start : c.of-best.result ≡ whole pref = point_by _ _ _ (whole pref) c.of-best.result c.of-best.ensures
+    let start : c.of-best.result ≡ whole pref = c.of-best.ensures ∙ point_by _ _ _ (whole pref) c.of-start.result c.of-start.ensures
     (computed (pref.x ∷ pref.y ∷ []) (16384 ∷ 16384 ∷ []) (c.requires.pref.across, (c.requires.pref.along, tt)) (search reads depth 40 fits 20000) tt)
     (computed (pref.x ∷ pref.y ∷ []) (16384 ∷ 16384 ∷ []) (c.requires.pref.across, (c.requires.pref.along, tt)) (search reads depth 40 fits 20000) tt)
     refl in
@@ -135,8 +135,8 @@ returns c =
     let best = c.loop-place-3.invariant.best in
     let meets = taken_meeting list h m (omega arith) (omega arith) e n k p (omega arith) (omega arith) best.inside in
     let turns = λ (v : Rational) (all : Meeting list v). best.toward v (meeting_taken list h m (omega arith) (omega arith) e n k v (omega arith) (omega arith) (omega arith) (omega arith) (omega arith) all) in
-    record {
+    rw c.point.ensures (record {
       nearest = record { meets = meets; no_farther = λ v all. no_farther c.args.pref p v all.point (turns v all) };
       toward = turns;
       none = tt;
-    }
+    })

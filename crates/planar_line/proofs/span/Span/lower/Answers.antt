@@ -22,9 +22,9 @@ crossing-requires c =
 pub invariant_of-self-2 : goal.invariant_of-self-2
 invariant_of-self-2 c =
     let falls = rw (← c.self.view_is) at c.requires in
-    rw c.crossing.ensures (lowered-stretch _ c.args.plane.now c.self.invariant falls (c.if-not-is_no_end_out.ensures.0 refl))
+    rw (c.of.ensures, c.crossing.ensures) (lowered-stretch _ c.args.plane.now c.self.invariant falls (c.if-not-is_no_end_out.ensures.0 refl))
 
 pub returns-clause-exact : goal.returns-clause-exact
 returns-clause-exact c =
     let falls = rw (← c.self.view_is) at c.requires in
-    rw (← c.self.view_is, c.crossing.ensures) (λ t. lowered-exact _ c.args.plane.now c.self.invariant falls (λ h. false≢true (c.if-is_end_in.ensures.1 h)))
+    rw (← c.self.view_is, c.of.ensures, c.crossing.ensures) (λ t. lowered-exact _ c.args.plane.now c.self.invariant falls (λ h. false≢true (c.if-is_end_in.ensures.1 h)))
