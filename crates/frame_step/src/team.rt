@@ -1,5 +1,6 @@
 // All workers of a step.
 ghost use Rattle.std.specs.Prelude.{◌≡◌, ◌<◌, ℕ, ◌+◌, ◌*◌, ◌≤◌, [], All, IfOk, length};
+ghost use Rattle.std.specs.Thread.{IsSync};
 ghost use Rattle.agent_step.specs.Frozen.{FrozenState};
 ghost use Rattle.crowd_data.specs.Run.{snapshot_of};
 ghost use Rattle.crowd_data.specs.Scenario.{Parts};
@@ -18,8 +19,7 @@ use crowd_data::{Body, Frame, MOST_AGENTS, Scenario};
 use fixed_vec::{List, NoMemory};
 use outside_io::Gate;
 use std::alloc::Global;
-use std::thread;
-use std::thread::Threads;
+use std::thread::{Threads, join_mut};
 use work_claim::{Claims, MOST_CLAIMERS, MOST_ROUNDS, Root};
 
 /// The workers of a run, with the counter that they draw pieces from, and room for half-planes where the calling
@@ -59,28 +59,42 @@ fn equip_all(root: &mut Root, claims: &Claims, workers: &mut [Worker])
     }
 }
 
-// Lets each worker do its part, in a thread of its own where one can be made.
+// Lets each of these workers do its part, the first of which has this number: each in a thread of its own where one
+// can be made, but for the last one. The calling thread starts all the others, one after another, so that the system
+// finds an idle processor for each.
+#[cycle(one_by_one)]
 fn work_all<R: Threads + Sync, G: Gate + Sync>(
     rt: &R,
     gate: &G,
+    number: usize,
     claims: &Claims,
-    workers: &mut [Worker],
     crowd: &FrozenCrowd,
     frame: &Frame,
+    workers: &mut [Worker],
 )
     requires some { 0 < length workers.old }
-    requires few { length workers.old ≤ MOST_CLAIMERS }
+    requires few { number + length workers.old ≤ MOST_CLAIMERS }
     requires step { MayStep crowd.now (snapshot_of frame.now) }
     requires equipped { (round : RoundView) × All (IsEquipped (claims_id claims.now) round crowd.now.scenario) workers.old }
     ensures count { length workers.new ≡ length workers.old }
     ensures worked { (round : RoundView) → All (IsEquipped (claims_id claims.now) round crowd.now.scenario) workers.old → All (HasWorked (claims_id claims.now) round crowd.now) workers.new }
 {
-    let count = workers.len();
-    let each = |number: usize, worker: &mut Worker|
-        requires { (number < MOST_CLAIMERS) × MayStep crowd.now (snapshot_of frame.now) × ((round : RoundView) × IsEquipped (claims_id claims.now) round crowd.now.scenario worker.now) }
-        ensures { (round : RoundView) → IsEquipped (claims_id claims.entry.now) round crowd.entry.now.scenario worker.entry.now → HasWorked (claims_id claims.entry.now) round crowd.entry.now worker.exit.now }
-    { work(gate, number, claims, worker, crowd, frame) };
-    thread::for_each_mut(rt, workers, count, &each);
+    if workers.len() == 1 {
+        work(gate, number, claims, &mut workers[0], crowd, frame);
+        return;
+    }
+    let (first, others) = workers.split_at_mut(1);
+    join_mut(
+        rt,
+        &mut ||
+            requires { IsSync R.row × IsSync G.row × (length first.now ≡ 1) × (number + 1 ≤ MOST_CLAIMERS) × MayStep crowd.now (snapshot_of frame.now) × ((round : RoundView) × All (IsEquipped (claims_id claims.now) round crowd.now.scenario) first.now) }
+            ensures { (length first.exit.now ≡ length first.entry.now) × ((round : RoundView) → All (IsEquipped (claims_id claims.entry.now) round crowd.entry.now.scenario) first.entry.now → All (HasWorked (claims_id claims.entry.now) round crowd.entry.now) first.exit.now) }
+        { work_all(rt, gate, number, claims, crowd, frame, first) },
+        &mut ||
+            requires { IsSync R.row × IsSync G.row × (0 < length others.now) × (number + 1 + length others.now ≤ MOST_CLAIMERS) × MayStep crowd.now (snapshot_of frame.now) × ((round : RoundView) × All (IsEquipped (claims_id claims.now) round crowd.now.scenario) others.now) }
+            ensures { (length others.exit.now ≡ length others.entry.now) × ((round : RoundView) → All (IsEquipped (claims_id claims.entry.now) round crowd.entry.now.scenario) others.entry.now → All (HasWorked (claims_id claims.entry.now) round crowd.entry.now) others.exit.now) }
+        { work_all(rt, gate, number + 1, claims, crowd, frame, others) },
+    );
 }
 
 // Puts together what all workers did, and takes their claimers back.
@@ -177,7 +191,7 @@ impl Team {
         let workers = workers.as_mut_slice();
         root.begin(claims);
         equip_all(root, claims, workers);
-        work_all(rt, gate, claims, workers, crowd, frame);
+        work_all(rt, gate, 0, claims, crowd, frame, workers);
         take_all_in(bodies, root, claims, workers);
     }
 
