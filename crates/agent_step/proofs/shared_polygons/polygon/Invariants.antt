@@ -1,6 +1,6 @@
 use Rattle.std.proofs.Common.{◌≡◌, length, take}
 use Rattle.crowd_data.specs.RingPlanes.{ring_planes_of}
-use Rattle.agent_step.proofs.polygons.polygon.Given as goal
+use Rattle.agent_step.proofs.shared_polygons.polygon.Given as goal
 
 -- the first half-planes are those of the polygon
 abbrev pub invariant-loop-k : goal.invariant-loop-k

@@ -2,7 +2,7 @@ use Rattle.std.proofs.Common.{◌∙◌, ◌++◌, [], ◌∷◌, ap, arith, len
 use Rattle.std.proofs.lemmas.List.{take_all, take_more_set}
 use Rattle.crowd_data.specs.RingPlanes.{ring_planes_of}
 use Rattle.hard_plane.proofs.RingPoints.{take-next}
-use Rattle.agent_step.proofs.polygons.polygon.Goals as goal
+use Rattle.agent_step.proofs.shared_polygons.polygon.Goals as goal
 
 pub loop-k-preserved : goal.loop-k-preserved
 loop-k-preserved g c =
