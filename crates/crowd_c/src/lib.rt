@@ -13,6 +13,8 @@ ghost use Rattle.array_step.specs.declared.fault.ArrayFault.{ArrayFault};
 ghost use Rattle.crowd_c.specs.Faults.{no_such_part, numbers_of};
 
 mod fault;
+#[cfg(test)]
+mod tests;
 
 use array_step::{CrowdAgent, CrowdSegment, StepFault, step, step_part};
 use crowd_data::LATEST_VERSION;

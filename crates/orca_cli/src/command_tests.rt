@@ -101,7 +101,7 @@ fn soak_of_four_thousand_agents(rt: HostRuntime) -> Result<(), Fail> {
         "soak",
         "--steps=50",
         "--workers",
-        "8",
+        "4",
         "--agents",
         "4000",
         "--number=7",
