@@ -28,9 +28,11 @@ pub struct Tree {
     layout: Layout,
 }
 
-// Agents move little in a step, and the tree is seldom asked. So the numbers are sorted anew at each 64th rebuild,
-// and the boxes at each.
-const STEPS_BETWEEN_SORTS: u32 = 64;
+// Agents move little in a step. So the numbers are sorted anew at each 16th rebuild, and the boxes at each.
+const STEPS_BETWEEN_SORTS: u32 = 16;
+
+// Where the cells show the neighbours, the tree is seldom asked.
+const STEPS_BETWEEN_SORTS_BESIDE_CELLS: u32 = 64;
 
 /// The numbers 0, 1 and so on, below `count`.
 pub(crate) fn numbered(alloc: Global, count: usize) -> Result<Vec<u32>, NoMemory>
@@ -88,7 +90,12 @@ impl Tree {
         } else {
             Cut::Kept
         };
-        self.age = (self.age % STEPS_BETWEEN_SORTS + 1) % STEPS_BETWEEN_SORTS;
+        let steps = if self.layout.ready {
+            STEPS_BETWEEN_SORTS_BESIDE_CELLS
+        } else {
+            STEPS_BETWEEN_SORTS
+        };
+        self.age = (self.age % steps + 1) % steps;
         build(places, &mut self.order, &mut self.boxes, cut);
         self.layout.rebuild(places, &self.order, &self.boxes);
     }
