@@ -21,6 +21,3 @@ mod tree;
 
 pub use near::Near;
 pub use tree::Tree;
-
-#[cfg(test)]
-mod tests;

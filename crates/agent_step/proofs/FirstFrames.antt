@@ -1,7 +1,7 @@
 -- In the first frame each agent stands as the scenario has it.
 use Rattle.std.proofs.Common.{◌≡◌, ◌+◌, ℕ, List, [], ◌∷◌, map, refl, ap, arith}
 use Rattle.std.specs.List.{All}
-use Rattle.std.proofs.lemmas.List.Elements.{All-cons, All-map, All-nil}
+use Rattle.std.proofs.lemmas.List.Elements.{All-map}
 use Rattle.crowd_data.specs.declared.agent.Agent.{Agent}
 use Rattle.crowd_data.specs.Advice.{place_of}
 use Rattle.crowd_data.specs.Limits.{IsAgent}
@@ -16,11 +16,3 @@ crowd_of-start number (agent ∷ rest) = ap (λ agents. agent ∷ agents) (crowd
 pub all_places : (agents : List Agent) → All IsAgent agents → All IsPlaced (map place_of agents)
 all_places agents valid = All-map IsPlaced place_of agents
     (λ k d l. let h = valid k d l in record { pos = (omega (arith, h.pos), omega (arith, h.pos)); radius = h.build.radius; speed = h.build.speed })
-
--- ---- few agents
-
-pub all_two : (a b : Agent) → IsAgent a → IsAgent b → All IsAgent (a ∷ b ∷ [])
-all_two a b h k = All-cons IsAgent a (b ∷ []) h (All-cons IsAgent b [] k (All-nil IsAgent))
-
-pub all_three : (a b c : Agent) → IsAgent a → IsAgent b → IsAgent c → All IsAgent (a ∷ b ∷ c ∷ [])
-all_three a b c h k l = All-cons IsAgent a (b ∷ c ∷ []) h (all_two b c k l)

@@ -20,6 +20,3 @@ pub use fault::{ArrayFault, StepFault};
 pub use laws::{one_step, parts_make_a_step};
 pub use moves::{step, step_part};
 pub use segment::CrowdSegment;
-
-#[cfg(test)]
-mod tests;

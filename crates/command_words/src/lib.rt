@@ -8,6 +8,3 @@ mod options;
 
 pub use commands::{Command, WordsFault, read_command};
 pub use limits::{GREATEST_SAMPLE, MOST_AGENTS, MOST_STEPS, MOST_WORKERS};
-
-#[cfg(test)]
-mod tests;

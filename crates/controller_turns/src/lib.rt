@@ -15,6 +15,3 @@ pub use notice::{Notice, Stage};
 pub use spawning::{TurnsPromise, begin};
 pub use told::{Told, Writes};
 pub use turn_loop::{Turns, is_newer, turns};
-
-#[cfg(test)]
-mod tests;

@@ -37,8 +37,3 @@ pub use script::push_script;
 pub use segment::Segment;
 pub use standing::{Touch, first_on_segment};
 pub use validity::valid;
-
-#[cfg(test)]
-mod tests;
-#[cfg(test)]
-mod validity_tests;

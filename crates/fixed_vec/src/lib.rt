@@ -15,6 +15,3 @@ pub use point::{Point, side};
 pub use quotients::{div_down, div_up};
 pub use roots::{ceil_root, floor_root};
 pub use vector::{V2, cross, dot, minus, perp, plus};
-
-#[cfg(test)]
-mod tests;

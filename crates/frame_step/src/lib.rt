@@ -12,6 +12,3 @@ mod team;
 mod worker;
 
 pub use stepper::Stepper;
-
-#[cfg(test)]
-mod tests;

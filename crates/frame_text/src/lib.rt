@@ -17,8 +17,3 @@ pub use cause::{TranscriptCause, TranscriptFault};
 pub use line::Line;
 pub use transcript::{write_end, write_frame, write_scenario};
 pub use transcript_read::{Transcript, read_transcript};
-
-#[cfg(test)]
-mod read_tests;
-#[cfg(test)]
-mod tests;

@@ -15,6 +15,3 @@ pub use laws::{inner_law, speed_law};
 pub use reach::in_reach;
 pub use ring::Ring;
 pub use wall::wall_plane;
-
-#[cfg(test)]
-mod tests;

@@ -17,6 +17,3 @@ mod stepping;
 
 pub use fault::LiveFault;
 pub use run::{live, live_places};
-
-#[cfg(test)]
-mod tests;

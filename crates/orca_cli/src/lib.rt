@@ -13,20 +13,3 @@ mod top_call;
 
 pub use commands::offline;
 pub use top_call::orca;
-
-#[cfg(test)]
-mod circle_tests;
-#[cfg(test)]
-mod command_tests;
-#[cfg(test)]
-mod crowd_tests;
-#[cfg(test)]
-mod live_tests;
-#[cfg(test)]
-mod post_tests;
-#[cfg(test)]
-mod tests;
-#[cfg(test)]
-mod version_tests;
-#[cfg(test)]
-mod wall_tests;

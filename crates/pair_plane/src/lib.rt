@@ -11,8 +11,6 @@ mod narrow;
 mod pair;
 mod relative;
 mod share;
-#[cfg(test)]
-mod tests;
 
 pub use border::region;
 pub use relative::relative_plane;

@@ -6,8 +6,6 @@ mod certificate;
 mod meeting;
 mod optimum;
 mod relief;
-#[cfg(test)]
-mod tests;
 
 pub use meeting::meets;
 pub use optimum::nearest;

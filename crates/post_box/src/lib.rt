@@ -15,6 +15,3 @@ pub use limits::{MOST_CONTROLLERS, MOST_TAKEN};
 pub use post_box::{PostBox, finish, open};
 pub use poster::{PostFault, Poster, Receipt};
 pub use taker::{Taken, Taker};
-
-#[cfg(test)]
-mod tests;

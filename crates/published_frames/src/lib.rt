@@ -23,6 +23,3 @@ pub use note::Note;
 pub use opening::open;
 pub use reader::{FrameGuard, FrameReader};
 pub use writer::{FrameWriter, Unpublished};
-
-#[cfg(test)]
-mod tests;

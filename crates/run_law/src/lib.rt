@@ -4,8 +4,6 @@
 #![tactic(auto)]
 
 mod safety;
-#[cfg(test)]
-mod tests;
 mod value;
 
 pub use safety::{every_run_is_safe, every_step_is_safe};

@@ -9,6 +9,3 @@ mod text;
 
 pub use summary::Summary;
 pub use text::write_summary;
-
-#[cfg(test)]
-mod tests;

@@ -28,10 +28,3 @@ pub use generator::generate;
 pub use part::Part;
 pub use read::{read_part, read_scenario};
 pub use values::{count_in, vector_in};
-
-#[cfg(test)]
-mod generator_tests;
-#[cfg(test)]
-mod tests;
-#[cfg(test)]
-mod version_tests;

@@ -5,8 +5,6 @@
 
 mod far;
 mod pair;
-#[cfg(test)]
-mod tests;
 mod wall;
 
 pub use far::far_pair;

@@ -10,6 +10,3 @@ mod transcript;
 pub use run::{one_transcript, transcripts_are_accepted};
 pub use scenario::reads_back;
 pub use transcript::transcript_reads_back;
-
-#[cfg(test)]
-mod tests;

@@ -18,6 +18,3 @@ pub use claims::Claims;
 pub use limits::{MOST_CLAIMERS, MOST_ROUNDS};
 pub use root::Root;
 pub use view::RoundView;
-
-#[cfg(test)]
-mod tests;

@@ -1,6 +1,0 @@
-use Rattle.published_frames.specs.Names.{reader_source}
-use Rattle.controller_turns.proofs.tests.turns_on_frame_zero.Given as goal
-
--- the writer that was opened
-abbrev pub ghosts-turns_at : goal.ghosts-turns_at
-ghosts-turns_at g a = record { book = (reader_source a.reader).0 }

@@ -1,0 +1,125 @@
+// Lines of every kind, as the format has them.
+ghost use Rattle.frame_text.specs.Printed.{FitsBody};
+
+use crate::texts::{is_same, read_some, written};
+use crowd_data::{Agent, Body, Frame, Goal, Mark, Post, SCRIPT, ScriptPost, Segment};
+use fixed_vec::{List, V2};
+use frame_text::{write_end, write_frame};
+use outside_io::MemSink;
+use std::test::Fail;
+
+fn body(mark: Mark) -> Body
+    ensures { FitsBody result }
+{
+    Body {
+        agent: 0,
+        pos: V2 { x: -1, y: 2 },
+        vel: V2 { x: 3, y: -4 },
+        pref: V2 { x: 5, y: 6 },
+        mark,
+        relief: 7,
+    }
+}
+
+#[test]
+fn a_frame_with_a_post(rt: HostRuntime) -> Result<(), Fail> {
+    let mut out = MemSink::open(rt.alloc(), 1000, List::with_room(rt.alloc(), 0)?)?;
+    let mut bodies = List::with_room(rt.alloc(), 1)?;
+    bodies.push(body(Mark::Fallback));
+    let frame = Frame { number: 9, bodies };
+    let post = Post {
+        controller: SCRIPT,
+        seq: 1,
+        agent: 0,
+        vel: V2 { x: 0, y: 100 },
+    };
+    write_frame(&mut out, &frame, &[post])?;
+    write_end(&mut out, 9)?;
+    assert_eq!(rt;
+        out.held(),
+        b"frame,9\ntake,16,1,0,0,100\nbody,0,-1,2,3,-4,5,6,fallback,7\nend,9\n".as_slice()
+    );
+    Ok(())
+}
+
+#[test]
+fn marks(rt: HostRuntime) -> Result<(), Fail> {
+    let mut out = MemSink::open(rt.alloc(), 1000, List::with_room(rt.alloc(), 0)?)?;
+    let mut bodies = List::with_room(rt.alloc(), 4)?;
+    bodies.push(body(Mark::Start));
+    bodies.push(body(Mark::Feasible));
+    bodies.push(body(Mark::Stopped));
+    bodies.push(body(Mark::Crowded));
+    let frame = Frame { number: 0, bodies };
+    write_frame(&mut out, &frame, &[])?;
+    assert_eq!(rt;
+        out.held(),
+        b"frame,0\nbody,0,-1,2,3,-4,5,6,start,7\nbody,0,-1,2,3,-4,5,6,feasible,7\nbody,0,-1,2,3,-4,5,6,stopped,7\nbody,0,-1,2,3,-4,5,6,crowded,7\n".as_slice()
+    );
+    Ok(())
+}
+
+#[test]
+fn records_of_a_scenario(rt: HostRuntime) -> Result<(), Fail> {
+    let text =
+        b"crowd,1\nsteps,5\nagent,-1,2,3,-4,5,6,7,8,9,10,11,12\nsegment,-10,20,30,-40\npost,5,0,-1,2\ngoal,7,0,3,-4,8\n".as_slice();
+    let scenario = read_some(rt.alloc(), text)?;
+    assert_eq!(rt;
+        scenario.agents(),
+        [Agent {
+            pos: V2 { x: -1, y: 2 },
+            vel: V2 { x: 3, y: -4 },
+            pref: V2 { x: 5, y: 6 },
+            radius: 7,
+            speed: 8,
+            range: 9,
+            most: 10,
+            horizon: 11,
+            wall_horizon: 12,
+            weight: 1,
+        }]
+        .as_slice()
+    );
+    assert_eq!(rt;
+        scenario.segments(),
+        [Segment {
+            a: V2 { x: -10, y: 20 },
+            b: V2 { x: 30, y: -40 }
+        }]
+        .as_slice()
+    );
+    assert_eq!(rt;
+        scenario.posts(),
+        [ScriptPost {
+            frame: 5,
+            agent: 0,
+            vel: V2 { x: -1, y: 2 }
+        }]
+        .as_slice()
+    );
+    assert_eq!(rt;
+        scenario.goals(),
+        [Goal {
+            controller: 7,
+            agent: 0,
+            at: V2 { x: 3, y: -4 },
+            pace: 8
+        }]
+        .as_slice()
+    );
+    let out = written(rt.alloc(), &scenario)?;
+    assert!(rt; is_same(out.held(), text));
+    Ok(())
+}
+
+#[test]
+fn agent_of_version_2(rt: HostRuntime) -> Result<(), Fail> {
+    let text = b"crowd,2\nsteps,0\nagent,-1,2,3,-4,5,6,7,8,9,10,11,12,13\n".as_slice();
+    let scenario = read_some(rt.alloc(), text)?;
+    for agent in scenario.agents() {
+        assert_eq!(rt; agent.weight, 13);
+    }
+    let out = written(rt.alloc(), &scenario)?;
+    assert!(rt; is_same(out.held(), text));
+    Ok(())
+}

@@ -1,0 +1,250 @@
+// Runs of a few agents, step by step, and steps that workers share.
+ghost use Rattle.std.specs.Prelude.{◌≡◌, ◌<◌, ◌≤◌, ◌+◌, All, IfOk, length};
+ghost use Rattle.crowd_data.specs.Limits.{IsAgent};
+
+use crowd_data::{Agent, FIRST_VERSION, Frame, Mark, PLAIN_RING, Scenario};
+use fixed_vec::{List, NoMemory, V2};
+use frame_step::Stepper;
+use outside_io::Gate;
+use std::alloc::Global;
+use std::sync::atomic::{AtomicU64, Ordering};
+use std::test::Fail;
+use std::thread;
+use std::thread::Threads;
+
+/// How often a worker looks for another one at a gate.
+const LOOKS: u32 = 1_000_000;
+
+const ORIGIN: V2 = V2 { x: 0, y: 0 };
+
+const WALKER: Agent = Agent {
+    pos: ORIGIN,
+    vel: ORIGIN,
+    pref: V2 { x: -300, y: 0 },
+    radius: 500,
+    speed: 400,
+    range: 15000,
+    most: 0,
+    horizon: 10,
+    wall_horizon: 4,
+    weight: 1,
+};
+
+// Two agents for two steps: the second one is just near the first one, which walks away from it. A caller learns
+// the number of the frame and that of the steps.
+fn opened(alloc: Global) -> Result<Stepper, NoMemory>
+    ensures number { IfOk result (λ stepper. stepper.frame.number ≡ 0) }
+    ensures steps { IfOk result (λ stepper. stepper.scenario.steps ≡ 2) }
+{
+    let mut agents = List::with_room(alloc, 2)?;
+    agents.push(WALKER);
+    agents.push(Agent {
+        pos: V2 { x: 1800, y: 0 },
+        pref: ORIGIN,
+        ..WALKER
+    });
+    let scenario = Scenario::of(
+        FIRST_VERSION,
+        PLAIN_RING,
+        2,
+        agents,
+        List::with_room(alloc, 0)?,
+        List::with_room(alloc, 0)?,
+        List::with_room(alloc, 0)?,
+    );
+    Stepper::open(alloc, scenario, 1)
+}
+
+// A step without posts, of which a caller learns the number of its frame.
+fn make_step<R: Threads + Sync>(rt: &R, stepper: &mut Stepper)
+    requires below { stepper.old.frame.number < stepper.old.scenario.steps }
+    ensures scenario { stepper.new.scenario ≡ stepper.old.scenario }
+    ensures number { stepper.new.frame.number ≡ stepper.old.frame.number + 1 }
+{
+    stepper.step(rt, &[]);
+}
+
+// The same, with a gate.
+fn make_gated_step<R: Threads + Sync, G: Gate + Sync>(rt: &R, stepper: &mut Stepper, gate: &G)
+    requires below { stepper.old.frame.number < stepper.old.scenario.steps }
+    ensures scenario { stepper.new.scenario ≡ stepper.old.scenario }
+    ensures number { stepper.new.frame.number ≡ stepper.old.frame.number + 1 }
+{
+    stepper.step_gated(rt, &[], gate);
+}
+
+// Whether two bodies stand at these places, both with this mark.
+fn stand_at(frame: &Frame, first: V2, second: V2, mark: Mark) -> bool {
+    let bodies = frame.bodies.items();
+    bodies.len() == 2
+        && bodies[0].pos == first
+        && bodies[1].pos == second
+        && bodies[0].mark == mark
+        && bodies[1].mark == mark
+}
+
+#[test]
+fn each_step_is_made_from_one_frame(rt: HostRuntime) -> Result<(), Fail> {
+    let second = V2 { x: 1800, y: 0 };
+    let mut stepper = opened(rt.alloc())?;
+    make_step(&rt, &mut stepper);
+    assert!(rt; stand_at(stepper.frame(), V2 { x: -300, y: 0 }, second, Mark::Crowded));
+    make_step(&rt, &mut stepper);
+    assert!(rt;
+        stand_at(
+            stepper.frame(),
+            V2 { x: -600, y: 0 },
+            second,
+            Mark::Feasible
+        )
+    );
+    Ok(())
+}
+
+// The agent of this number in a row: each walks towards its neighbour on one side.
+fn in_row(number: u32) -> Agent
+    requires { number < 1000 }
+    ensures { IsAgent result }
+{
+    Agent {
+        pos: V2 {
+            x: i64::from(4000 * number),
+            y: 0,
+        },
+        pref: V2 {
+            x: if number.is_multiple_of(2) { 300 } else { -300 },
+            y: 0,
+        },
+        most: 10,
+        ..WALKER
+    }
+}
+
+fn row_of(alloc: Global, count: u32) -> Result<List<Agent>, NoMemory>
+    requires { count ≤ 1000 }
+    ensures count { IfOk result (λ agents. length agents.items ≡ count) }
+    ensures sound { IfOk result (λ agents. All IsAgent agents.items) }
+{
+    let mut agents = List::with_room(alloc, count as usize)?;
+    for number in 0..count {
+        agents.push(in_row(number));
+    }
+    Ok(agents)
+}
+
+// A row of so many agents, for two steps.
+fn opened_row(alloc: Global, count: u32, workers: u32) -> Result<Stepper, NoMemory>
+    requires count { count ≤ 1000 }
+    requires some_workers { 1 ≤ workers }
+    requires workers { workers ≤ 64 }
+    ensures number { IfOk result (λ stepper. stepper.frame.number ≡ 0) }
+    ensures steps { IfOk result (λ stepper. stepper.scenario.steps ≡ 2) }
+{
+    let scenario = Scenario::of(
+        2,
+        36,
+        2,
+        row_of(alloc, count)?,
+        List::with_room(alloc, 0)?,
+        List::with_room(alloc, 0)?,
+        List::with_room(alloc, 0)?,
+    );
+    Stepper::open(alloc, scenario, workers)
+}
+
+// Whether so many workers bring a row to the frame 2 that one brings it to.
+fn share_well<R: Threads + Sync>(
+    rt: &R,
+    alloc: Global,
+    count: u32,
+    workers: u32,
+) -> Result<bool, NoMemory>
+    requires count { count ≤ 1000 }
+    requires some_workers { 1 ≤ workers }
+    requires workers { workers ≤ 64 }
+{
+    let mut alone = opened_row(alloc, count, 1)?;
+    let mut shared = opened_row(alloc, count, workers)?;
+    make_step(rt, &mut alone);
+    make_step(rt, &mut alone);
+    make_step(rt, &mut shared);
+    make_step(rt, &mut shared);
+    let bodies = shared.frame().bodies.items();
+    Ok(bodies.len() == count as usize && bodies == alone.frame().bodies.items())
+}
+
+#[test]
+fn any_number_of_workers_makes_the_same_frames(rt: HostRuntime) -> Result<(), Fail> {
+    let alloc = rt.alloc();
+    assert!(rt; share_well(&rt, alloc, 0, 5)?);
+    assert!(rt; share_well(&rt, alloc, 3, 7)?);
+    assert!(rt; share_well(&rt, alloc, 36, 7)?);
+    assert!(rt; share_well(&rt, alloc, 129, 64)?);
+    assert!(rt; share_well(&rt, alloc, 1000, 3)?);
+    assert!(rt; share_well(&rt, alloc, 1000, 64)?);
+    Ok(())
+}
+
+// Holds the worker of piece 0 until the three other pieces have come, and those of the others until it has.
+#[derive(Drop)]
+struct Meeting {
+    first: AtomicU64,
+    others: AtomicU64,
+    seen: AtomicU64,
+}
+
+impl Gate for Meeting {
+    fn pass(&self, _who: u32, turn: u64) {
+        let (mine, awaited, count) = if turn == 0 {
+            (&self.first, &self.others, 3)
+        } else {
+            (&self.others, &self.first, 1)
+        };
+        mine.fetch_add(1, Ordering::SeqCst);
+        for _ in 0..LOOKS {
+            if awaited.load(Ordering::SeqCst) == count {
+                self.seen.fetch_add(1, Ordering::SeqCst);
+                return;
+            }
+            thread::yield_now();
+        }
+    }
+}
+
+#[test]
+fn workers_run_beside_each_other(rt: HostRuntime) -> Result<(), Fail> {
+    let mut stepper = opened_row(rt.alloc(), 128, 2)?;
+    let gate = Meeting {
+        first: AtomicU64::new(0),
+        others: AtomicU64::new(0),
+        seen: AtomicU64::new(0),
+    };
+    make_gated_step(&rt, &mut stepper, &gate);
+    assert_eq!(rt; gate.seen.load(Ordering::SeqCst), 4);
+    Ok(())
+}
+
+// Counts the pieces that worker 0 brings in order.
+#[derive(Drop)]
+struct InOrder {
+    next: AtomicU64,
+}
+
+impl Gate for InOrder {
+    fn pass(&self, who: u32, turn: u64) {
+        if who == 16 && turn == self.next.load(Ordering::SeqCst) {
+            self.next.fetch_add(1, Ordering::SeqCst);
+        }
+    }
+}
+
+#[test]
+fn one_worker_passes_the_gate_before_each_piece(rt: HostRuntime) -> Result<(), Fail> {
+    let mut stepper = opened_row(rt.alloc(), 65, 1)?;
+    let gate = InOrder {
+        next: AtomicU64::new(0),
+    };
+    make_gated_step(&rt, &mut stepper, &gate);
+    assert_eq!(rt; gate.next.load(Ordering::SeqCst), 3);
+    Ok(())
+}
