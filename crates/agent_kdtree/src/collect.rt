@@ -2,6 +2,7 @@
 ghost use Rattle.std.specs.Prelude.{◌≡◌, ◌+◌, ◌<◌, ◌≤◌, ◌++◌, [], All, length, take, true};
 ghost use Rattle.crowd_data.specs.declared.pair.Place.{Place};
 ghost use Rattle.crowd_data.specs.Neighbours.{in_order, is_in_range, place_at};
+ghost use Rattle.crowd_data.specs.declared.limits.TheConstants.{MOST_NEIGHBOURS};
 ghost use Rattle.agent_kdtree.specs.Gather.{IsQuery, seen_at};
 ghost use Rattle.agent_kdtree.specs.Keys.{seen_in_range, seen_of_key, seen_of_keys};
 ghost use Rattle.agent_kdtree.specs.Placed.{IsPlaced};
@@ -72,7 +73,7 @@ fn near_of(key: u64) -> Near
 
 /// Puts the first `most` of the keys, in order, into an empty list.
 pub(crate) fn first_of(keys: &mut [u64], most: usize, best: &mut ArrayVec<Near, 64>)
-    requires most { most ≤ 64 }
+    requires most { most ≤ MOST_NEIGHBOURS }
     requires empty { best.old.items ≡ [] }
     ensures { seen_all best.new.items ≡ take most (in_order (seen_of_keys keys.old)) }
 {

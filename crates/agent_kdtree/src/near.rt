@@ -2,6 +2,7 @@
 ghost use Rattle.std.specs.Prelude.{◌≡◌, ◌≤◌, length, map, take};
 ghost use Rattle.std.specs.List.{insert};
 ghost use Rattle.crowd_data.specs.Neighbours.{is_before, placed_in};
+ghost use Rattle.crowd_data.specs.declared.limits.TheConstants.{MOST_NEIGHBOURS};
 ghost use Rattle.agent_kdtree.specs.Seen.{seen_of, seen_all};
 
 use arrayvec::ArrayVec;
@@ -34,7 +35,7 @@ fn place_for(items: &[Near], near: &Near) -> usize
 
 /// Puts `near` among the best, and begins after the first `most`.
 pub(crate) fn place_in(best: &mut ArrayVec<Near, 64>, most: usize, near: Near)
-    requires most { most ≤ 64 }
+    requires most { most ≤ MOST_NEIGHBOURS }
     requires room { length best.old.items ≤ most }
     ensures { seen_all best.new.items ≡ take most (placed_in (seen_of near) (seen_all best.old.items)) }
 {

@@ -1,5 +1,5 @@
 // Whose neighbours are asked for, and the candidates one at a time.
-ghost use Rattle.crowd_data.specs.declared.limits.TheConstants.{GREATEST_RANGE};
+ghost use Rattle.crowd_data.specs.declared.limits.TheConstants.{GREATEST_RANGE, MOST_NEIGHBOURS};
 ghost use Rattle.std.specs.Prelude.{◌≡◌, ◌*◌, ◌<◌, ◌≤◌, All, ℕ, List, IsFalse, IsTrue, length};
 ghost use Rattle.crowd_data.specs.declared.pair.Place.{Place};
 ghost use Rattle.crowd_data.specs.Neighbours.{neighbours, place_at, squared_gap};
@@ -27,7 +27,7 @@ pub(crate) fn query_for(places: &[Place], who: u32, range: u32, most: u32) -> Qu
     requires placed { All IsPlaced places.now }
     requires who { who < length places.now }
     requires range { range ≤ GREATEST_RANGE }
-    requires most { most ≤ 64 }
+    requires most { most ≤ MOST_NEIGHBOURS }
     ensures query { IsQuery result }
     ensures at { result.at ≡ (place_at places.now who).pos }
     ensures most { result.most ≡ most }

@@ -1,5 +1,5 @@
 // The tree over the places of all agents.
-ghost use Rattle.crowd_data.specs.declared.limits.TheConstants.{GREATEST_RANGE};
+ghost use Rattle.crowd_data.specs.declared.limits.TheConstants.{GREATEST_RANGE, MOST_NEIGHBOURS};
 ghost use Rattle.std.specs.Prelude.{◌≡◌, ◌↔◌, ◌<◌, ◌≤◌, ◌^◌, ◌*◌, ◌/◌, ◌+◌, [], All, IfOk, IsTrue, length, map};
 ghost use Rattle.crowd_data.specs.Neighbours.{MissesNear, neighbours, numbers};
 ghost use Rattle.agent_kdtree.specs.declared.near.Near.{Near};
@@ -107,7 +107,7 @@ impl Tree {
         requires stands { StandsFor self.now places.now }
         requires who { who < length places.now }
         requires range { range ≤ GREATEST_RANGE }
-        requires most { most ≤ 64 }
+        requires most { most ≤ MOST_NEIGHBOURS }
         ensures { map seen_of result.items ≡ neighbours places.now who range most }
     {
         let mut best = ArrayVec::new();
@@ -128,7 +128,7 @@ impl Tree {
         requires stands { StandsFor self.now places.now }
         requires who { who < length places.now }
         requires range { range ≤ GREATEST_RANGE }
-        requires most { most ≤ 64 }
+        requires most { most ≤ MOST_NEIGHBOURS }
         requires empty { best.old.items ≡ [] }
         ensures { map seen_of best.new.items ≡ neighbours places.now who range most }
     {

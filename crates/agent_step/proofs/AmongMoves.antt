@@ -15,6 +15,7 @@ use Rattle.crowd_data.specs.RingPlanes.{ring_planes}
 use Rattle.crowd_data.specs.Limits.{fine_ring}
 use Rattle.crowd_data.specs.Scenario.{Parts}
 use Rattle.crowd_data.specs.Walls.{in_reach, wall_plane}
+use Rattle.planar_program.specs.declared.relief.TheConstants.{GREATEST_RELIEF}
 use Rattle.hard_plane.proofs.ScenarioRings.{length-ring_planes_le}
 use Rattle.planar_program.specs.Met.{IsMet}
 use Rattle.agent_step.specs.Among.{AdvisedAmong}
@@ -68,7 +69,7 @@ shares_behind crowd seen who near walls first planes e f g h =
     ∙ shares_are crowd who near f
 
 -- with no half-plane before them all are relieved
-pub relieved_shares : (planes soft : List Plane) (hard : ℕ) → hard ≡ 0 → drop hard planes ≡ soft → relieved_after hard 262143 planes ≡ map (λ plane. relieved_of plane 262143) soft
+pub relieved_shares : (planes soft : List Plane) (hard : ℕ) → hard ≡ 0 → drop hard planes ≡ soft → relieved_after hard GREATEST_RELIEF planes ≡ map (λ plane. relieved_of plane GREATEST_RELIEF) soft
 relieved_shares planes soft hard e f = rw (e, sym f) (rw e refl)
 
 -- the half-planes that the code has are those of the agent, the hard ones first

@@ -11,6 +11,7 @@ use Rattle.crowd_data.specs.Limits.{IsVelocity}
 use Rattle.crowd_data.specs.RingPlanes.{ring_planes, ring_planes_of, ring_points, ring_radius}
 use Rattle.hard_plane.proofs.RingPoints.{ring_planes_of-ring}
 use Rattle.crowd_data.specs.declared.agent.Agent.{Agent}
+use Rattle.crowd_data.specs.declared.limits.TheConstants.{GREATEST_SPEED}
 use Rattle.hard_plane.specs.Ring.{IsInPolygon}
 use Rattle.agent_step.specs.Polygons.{BeginWithPolygon, IsPolygon}
 use Rattle.exact_algebra.proofs.Sizes.{square_abs, root_le}
@@ -37,7 +38,7 @@ polygons_by ring radius points agents e f = λ i. map (λ (agent : Agent). ring_
 
 -- ---- a velocity that is no longer than a speed
 
-pub short_velocity : (v : V2) (speed : ℕ) → speed ≤ 16384 → square v ≤ℤ (pos speed *ℤ pos speed) → IsVelocity v
+pub short_velocity : (v : V2) (speed : ℕ) → speed ≤ GREATEST_SPEED → square v ≤ℤ (pos speed *ℤ pos speed) → IsVelocity v
 short_velocity v speed most h =
     let e = square_abs v.x in
     let f = square_abs v.y in

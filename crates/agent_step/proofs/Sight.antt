@@ -7,9 +7,10 @@ use Rattle.crowd_data.specs.Advice.{agent_at, neighbours_of, place_of}
 use Rattle.crowd_data.specs.Neighbours.{place_at, squared_gap}
 use Rattle.crowd_data.proofs.Crowds.{place_at-map}
 use Rattle.crowd_data.proofs.Sight.{InRange, neighbours_in_range}
+use Rattle.crowd_data.specs.declared.limits.TheConstants.{GREATEST_RANGE}
 use Rattle.agent_step.specs.Sight.{IsSeen}
 
-pub neighbours_seen : (crowd : List Agent) (who : ℕ) → (agent_at crowd who).range ≤ 65536 → All (IsSeen crowd who) (neighbours_of crowd who)
+pub neighbours_seen : (crowd : List Agent) (who : ℕ) → (agent_at crowd who).range ≤ GREATEST_RANGE → All (IsSeen crowd who) (neighbours_of crowd who)
 neighbours_seen crowd who limit =
     All-weaker (InRange (map place_of crowd) who (agent_at crowd who).range) (IsSeen crowd who) seen (neighbours_of crowd who)
     (neighbours_in_range (map place_of crowd) who (agent_at crowd who).range (agent_at crowd who).most)

@@ -12,6 +12,7 @@ use Rattle.fixed_vec.specs.HalfPlane.{whole_length}
 use Rattle.fixed_vec.specs.Vector.{IsBelow, minus, square}
 use Rattle.crowd_data.specs.Headings.{cut}
 use Rattle.crowd_data.specs.Limits.{IsPosition, IsWithin}
+use Rattle.crowd_data.specs.declared.limits.TheConstants.{GREATEST_SPEED}
 use Rattle.published_frames.specs.History.{farthest}
 
 -- ---- the squared length of a way, and its length
@@ -77,14 +78,14 @@ scaled_small coordinate pace length h =
     omega (arith, e, q)
 
 -- what the code's product and quotient of such numbers are
-pub scaled_is : (coordinate : ℤ) (pace length : ℕ) (a p d : ℤ) → a ≡ coordinate → p ≡ pos pace → d ≡ pos length → unsigned_abs coordinate ≤ length → pace ≤ 16384 → 0 < length → length < 2 ^ 62
+pub scaled_is : (coordinate : ℤ) (pace length : ℕ) (a p d : ℤ) → a ≡ coordinate → p ≡ pos pace → d ≡ pos length → unsigned_abs coordinate ≤ length → pace ≤ GREATEST_SPEED → 0 < length → length < 2 ^ 62
     → to_z w128 (of_z w128 (int_div (to_z w128 (of_z w128 (to_z w128 (of_z w128 a) *ℤ to_z w128 (of_z w128 p)))) (to_z w128 (of_z w128 d)))) ≡ cut (coordinate *ℤ pos pace) (pos length)
 scaled_is coordinate pace length a p d ea ep ed h k l m =
     let size : unsigned_abs coordinate ≤ 2 ^ 62 = omega (arith, h, m) in
-    let fits : FitsSigned w128 (coordinate *ℤ pos pace) = fits_signed_mul w128 coordinate (pos pace) (2 ^ 62) 16384 size k (omega arith) in
+    let fits : FitsSigned w128 (coordinate *ℤ pos pace) = fits_signed_mul w128 coordinate (pos pace) (2 ^ 62) GREATEST_SPEED size k (omega arith) in
     let product : to_z w128 (of_z w128 (to_z w128 (of_z w128 a) *ℤ to_z w128 (of_z w128 p))) ≡ coordinate *ℤ pos pace =
     (λ i. to_z w128 (of_z w128 (to_z w128 (of_z w128 (ea i)) *ℤ to_z w128 (of_z w128 (ep i)))))
-    ∙ computed (coordinate ∷ pos pace ∷ []) (2 ^ 62 ∷ 16384 ∷ []) (size, (k, tt)) (search reads depth 40 fits 20000) tt in
+    ∙ computed (coordinate ∷ pos pace ∷ []) (2 ^ 62 ∷ GREATEST_SPEED ∷ []) (size, (k, tt)) (search reads depth 40 fits 20000) tt in
     let whole : FitsSigned w128 (pos length) = record { sfits = omega (arith, m) } in
     let divisor : to_z w128 (of_z w128 d) ≡ pos length = (λ i. to_z w128 (of_z w128 (ed i))) ∙ to_z-of_z whole in
     (λ i. to_z w128 (of_z w128 (int_div (product i) (divisor i)))) ∙ to_z-of_z (quot_fits w128 (coordinate *ℤ pos pace) (pos length) fits (omega (arith, ints, l)))

@@ -10,6 +10,7 @@ use Rattle.crowd_data.specs.Limits.{IsGoal}
 use Rattle.crowd_data.specs.Present.{IsBody, IsPresent}
 use Rattle.crowd_data.specs.Run.{Snapshot}
 use Rattle.crowd_data.specs.Scenario.{Parts}
+use Rattle.crowd_data.specs.declared.limits.TheConstants.{MOST_STEPS}
 use Rattle.post_box.specs.Ends.{PosterState, after_posting, next_post}
 use Rattle.published_frames.specs.History.{AreInRange, IsReadable}
 use Rattle.controller_turns.specs.Turns.{Preference, goals_of, preference_for, preference_of, preferences_of, turn}
@@ -75,10 +76,10 @@ readable_can_turn scenario goals frame readable limits = record {
   limits = subst (λ (n : ℕ). All (IsGoal n) goals) (sym readable.full) limits;
 }
 
-in_range_later : (number : ℕ) (bodies : List Body) → number ≤ 100000 → All (IsBody number) bodies → AreInRange bodies
+in_range_later : (number : ℕ) (bodies : List Body) → number ≤ MOST_STEPS → All (IsBody number) bodies → AreInRange bodies
 in_range_later number bodies few all = λ place other h. let body = all place other h in (omega (arith, few, body.pos.0), omega (arith, few, body.pos.1))
 
-pub present_can_turn : (scenario : Parts) (goals : List Goal) (frame : Snapshot) → scenario.steps ≤ 100000 → IsPresent scenario frame → All (IsGoal (length scenario.agents)) goals → CanTurn goals frame
+pub present_can_turn : (scenario : Parts) (goals : List Goal) (frame : Snapshot) → scenario.steps ≤ MOST_STEPS → IsPresent scenario frame → All (IsGoal (length scenario.agents)) goals → CanTurn goals frame
 present_can_turn scenario goals frame few present limits = record {
   numbered = present.numbered;
   in_range = in_range_later frame.number frame.bodies (let n = present.number in omega (arith, few, n)) present.bodies;

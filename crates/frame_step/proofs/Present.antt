@@ -13,18 +13,19 @@ use Rattle.crowd_data.specs.Present.{IsBody, IsPresent}
 use Rattle.crowd_data.specs.Run.{Snapshot, crowd_of, standing}
 use Rattle.crowd_data.specs.Scenario.{IsValid, Parts}
 use Rattle.crowd_data.proofs.Crowds.{length-places}
+use Rattle.crowd_data.specs.declared.limits.TheConstants.{GREATEST_COORDINATE, GREATEST_SPEED, MOST_STEPS}
 use Rattle.agent_kdtree.specs.Placed.{IsPlaced}
 
 -- ---- where the agents stand
 
-below : (at : V2) (number : ℕ) → number ≤ 100000 → IsWithin at (4194304 + 16384 * number) → IsBelow at (2 ^ 31)
+below : (at : V2) (number : ℕ) → number ≤ MOST_STEPS → IsWithin at (GREATEST_COORDINATE + GREATEST_SPEED * number) → IsBelow at (2 ^ 31)
 below at number few near = (omega (arith, near.0), omega (arith, near.1))
 
 -- where an agent stands in a frame, it can be placed
-placed_agent : (agent : Agent) (body : Body) (number : ℕ) → number ≤ 100000 → IsAgent agent → IsBody number body → IsPlaced (place_of (standing agent body))
+placed_agent : (agent : Agent) (body : Body) (number : ℕ) → number ≤ MOST_STEPS → IsAgent agent → IsBody number body → IsPlaced (place_of (standing agent body))
 placed_agent agent body number few sound limits = record { pos = below body.pos number few limits.pos; radius = sound.build.radius; speed = sound.build.speed }
 
-placed_all : (agents : List Agent) (bodies : List Body) (number : ℕ) → number ≤ 100000 → All IsAgent agents → All (IsBody number) bodies
+placed_all : (agents : List Agent) (bodies : List Body) (number : ℕ) → number ≤ MOST_STEPS → All IsAgent agents → All (IsBody number) bodies
     → All (λ (agent : Agent). IsPlaced (place_of agent)) (crowd_of agents bodies)
 placed_all [] bodies number few sound all = All-nil (λ (agent : Agent). IsPlaced (place_of agent))
 placed_all (agent ∷ agents) [] number few sound all = All-nil (λ (agent : Agent). IsPlaced (place_of agent))

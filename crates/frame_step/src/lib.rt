@@ -11,4 +11,5 @@ mod stepper;
 mod team;
 mod worker;
 
+pub use limits::MOST_WORKERS;
 pub use stepper::Stepper;

@@ -1,5 +1,8 @@
 // How the work of a step is cut.
 
+/// The most workers of a step, the calling thread among them.
+pub const MOST_WORKERS: u32 = 64;
+
 /// How many agents make a piece. The last piece may have fewer.
 pub(crate) const AGENTS_PER_PIECE: usize = 32;
 

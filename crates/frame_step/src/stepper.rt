@@ -6,6 +6,7 @@ ghost use Rattle.crowd_data.specs.Run.{IsNext, snapshot_of, start_of};
 ghost use Rattle.crowd_data.specs.SafeSteps.{IsSafeStep};
 ghost use Rattle.crowd_data.specs.Scenario.{IsValid};
 ghost use Rattle.frame_step.specs.Present.{Course, IsReady};
+ghost use Rattle.frame_step.specs.declared.limits.TheConstants.{MOST_WORKERS};
 
 use crate::places::place_all;
 use crate::posts::take_all;
@@ -48,7 +49,7 @@ impl Stepper {
     /// proved).
     pub fn open(alloc: Global, scenario: Scenario, workers: u32) -> Result<Stepper, NoMemory>
         requires some_workers { 1 ≤ workers }
-        requires workers { workers ≤ 64 }
+        requires workers { workers ≤ MOST_WORKERS }
         ensures scenario { IfOk result (λ s. s.scenario ≡ scenario) }
         ensures frame { IfOk result (λ s. s.frame ≡ start_of scenario) }
     {

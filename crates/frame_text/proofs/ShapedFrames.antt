@@ -14,6 +14,8 @@ use Rattle.crowd_data.specs.declared.frame.Body.{Body}
 use Rattle.crowd_data.specs.declared.post.Post.{Post}
 use Rattle.crowd_data.specs.Limits.{IsVelocity, IsWithin}
 use Rattle.crowd_data.specs.Scenario.{Parts}
+use Rattle.crowd_data.specs.declared.limits.TheConstants.{GREATEST_AGENT, GREATEST_SPEED}
+use Rattle.crowd_data.specs.declared.post.TheConstants.{SCRIPT}
 use Rattle.scenario_read.specs.declared.cause.Cause.{Cause}
 use Rattle.scenario_read.specs.Fields.{field_text}
 use Rattle.scenario_read.specs.Numbers.{number_of}
@@ -21,7 +23,7 @@ use Rattle.scenario_read.specs.Fields.{is_kind}
 use Rattle.scenario_read.specs.Values.{and_then, count_in, number_in, vector_in, within}
 use Rattle.scenario_read.specs.Records.{Record}
 use Rattle.scenario_read.proofs.KnownParts.{equal_is}
-use Rattle.frame_text.specs.declared.limits.TheConstants.{GREATEST_SEQ}
+use Rattle.frame_text.specs.declared.limits.TheConstants.{GREATEST_PLACE, GREATEST_RELIEF, GREATEST_SEQ}
 use Rattle.frame_text.specs.Shape.{FramesSoFar, PostedFrame, all_frames, body_of_row, closed, ends, frames_from, is_end, is_whole, last_frame, mark_of_word, none_begun, number_of_row, or_stop, post_of_row, with_body, with_frame, with_ok, with_post, with_record, with_some}
 use Rattle.frame_text.specs.Shaped.{AreBodies, AreFrames, IsPrintedBody, IsPrintedPost, IsPostedFrame, IsShaped}
 
@@ -81,30 +83,30 @@ post_limits : (row : Record) (p : Post) (agents : ℕ) → post_of_row row ≡ S
 unfolding post_of_row
 post_limits row p agents e below =
     let t = if_then (length row == 6) _ p e in
-    let (controller, is1, e1) = ok_then (count_in row 1 0 16) _ p t.1 in
+    let (controller, is1, e1) = ok_then (count_in row 1 0 SCRIPT) _ p t.1 in
     let (seq, is2, e2) = ok_then (count_in row 2 0 GREATEST_SEQ) _ p e1 in
-    let (agent, is3, e3) = ok_then (count_in row 3 0 9999) _ p e2 in
-    let (vel, is4, e4) = ok_then (vector_in row 4 5 16384) _ p e3 in
+    let (agent, is3, e3) = ok_then (count_in row 3 0 GREATEST_AGENT) _ p e2 in
+    let (vel, is4, e4) = ok_then (vector_in row 4 5 GREATEST_SPEED) _ p e3 in
     let same = same_Some _ p e4 in
     record {
-      controller = subst (λ (q : Post). q.controller ≤ 16) same (count_most row 1 16 controller is1);
+      controller = subst (λ (q : Post). q.controller ≤ SCRIPT) same (count_most row 1 SCRIPT controller is1);
       seq = subst (λ (q : Post). q.seq ≤ GREATEST_SEQ) same (count_most row 2 GREATEST_SEQ seq is2);
       agent = below;
-      vel = subst (λ (q : Post). IsVelocity q.vel) same (vector_most row 4 5 16384 vel is4);
+      vel = subst (λ (q : Post). IsVelocity q.vel) same (vector_most row 4 5 GREATEST_SPEED vel is4);
     }
 
 body_limits : (row : Record) (b : Body) → body_of_row row ≡ Some b → IsPrintedBody b
 unfolding body_of_row
 body_limits row b e =
     let t = if_then (length row == 10) _ b e in
-    let (agent, is1, e1) = ok_then (count_in row 1 0 9999) _ b t.1 in
-    let (at, is2, e2) = ok_then (vector_in row 2 3 2147483647) _ b e1 in
-    let (vel, is3, e3) = ok_then (vector_in row 4 5 16384) _ b e2 in
-    let (pref, is4, e4) = ok_then (vector_in row 6 7 16384) _ b e3 in
+    let (agent, is1, e1) = ok_then (count_in row 1 0 GREATEST_AGENT) _ b t.1 in
+    let (at, is2, e2) = ok_then (vector_in row 2 3 GREATEST_PLACE) _ b e1 in
+    let (vel, is3, e3) = ok_then (vector_in row 4 5 GREATEST_SPEED) _ b e2 in
+    let (pref, is4, e4) = ok_then (vector_in row 6 7 GREATEST_SPEED) _ b e3 in
     let (mark, is5, e5) = some_then (mark_of_word (field_text row 8)) _ b e4 in
-    let (relief, is6, e6) = ok_then (count_in row 9 0 262143) _ b e5 in
+    let (relief, is6, e6) = ok_then (count_in row 9 0 GREATEST_RELIEF) _ b e5 in
     subst IsPrintedBody (same_Some _ b e6)
-    (record { pos = vector_most row 2 3 2147483647 at is2; vel = vector_most row 4 5 16384 vel is3; pref = vector_most row 6 7 16384 pref is4; relief = count_most row 9 262143 relief is6 })
+    (record { pos = vector_most row 2 3 GREATEST_PLACE at is2; vel = vector_most row 4 5 GREATEST_SPEED vel is3; pref = vector_most row 6 7 GREATEST_SPEED pref is4; relief = count_most row 9 GREATEST_RELIEF relief is6 })
 
 -- ---- the frames so far
 

@@ -9,6 +9,7 @@ use Rattle.fixed_vec.specs.declared.vector.V2.{V2}
 use Rattle.fixed_vec.specs.Vector.{cross, dot, minus, perp, square, IsBelow}
 use Rattle.fixed_vec.specs.HalfPlane.{FitsPlane}
 use Rattle.crowd_data.specs.RingPlanes.{edge_plane}
+use Rattle.crowd_data.specs.declared.limits.TheConstants.{GREATEST_SPEED}
 use Rattle.hard_plane.proofs.Sizes.{ceil_within}
 
 abbrev edge : V2 → V2 → V2
@@ -30,12 +31,12 @@ abbrev inputs : ℕ → V2 → V2 → List ℤ
 inputs k p q = pos k ∷ p.x ∷ p.y ∷ q.x ∷ q.y ∷ []
 
 abbrev limits : List ℕ
-limits = 16384 ∷ 1024 ∷ 1024 ∷ 1024 ∷ 1024 ∷ []
+limits = GREATEST_SPEED ∷ 1024 ∷ 1024 ∷ 1024 ∷ 1024 ∷ []
 
-within : (k : ℕ) (p q : V2) → k ≤ 16384 → IsBelow p 1024 → IsBelow q 1024 → Within (inputs k p q) limits
+within : (k : ℕ) (p q : V2) → k ≤ GREATEST_SPEED → IsBelow p 1024 → IsBelow q 1024 → Within (inputs k p q) limits
 within k p q h i j = (omega (arith, ints), (omega (arith, i.0), (omega (arith, i.1), (omega (arith, j.0), (omega (arith, j.1), tt)))))
 
-pub edge_fits : (r : ℤ) (k : ℕ) (p q : V2) → pos 0 <ℤ r → k ≤ 16384 → IsBelow p 1024 → IsBelow q 1024 → pos 0 <ℤ cross p q → FitsPlane (edge_plane r k p q)
+pub edge_fits : (r : ℤ) (k : ℕ) (p q : V2) → pos 0 <ℤ r → k ≤ GREATEST_SPEED → IsBelow p 1024 → IsBelow q 1024 → pos 0 <ℤ cross p q → FitsPlane (edge_plane r k p q)
 edge_fits r k p q hr hk hp hq left =
     let w = within k p q hk hp hq in
     let n : unsigned_abs (square (edge p q)) < 2 ^ 60 = bounded (inputs k p q) limits (2 ^ 60) (square (edge p q)) w (search reads depth 40 fits 20000) tt in

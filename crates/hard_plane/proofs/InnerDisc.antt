@@ -12,6 +12,7 @@ use Rattle.fixed_vec.specs.Vector.{cross, dot, minus, perp, square}
 use Rattle.fixed_vec.specs.HalfPlane.{Plane}
 use Rattle.fixed_vec.specs.Point.{Rational, IsIn}
 use Rattle.crowd_data.specs.RingPlanes.{edge_plane, edge_planes, ring_planes, ring_planes_of, ring_points, ring_radius}
+use Rattle.crowd_data.specs.declared.limits.TheConstants.{GREATEST_SPEED}
 use Rattle.hard_plane.specs.Ring.{turns_left, all_at, is_round, inner_reach, IsInner}
 use Rattle.hard_plane.proofs.RingPoints.{ring_planes_of-ring}
 use Rattle.hard_plane.proofs.ScenarioRings.{by_ring, round, some_radius}
@@ -114,7 +115,7 @@ module _ (r : ℤ) (k : ℕ) (v : Rational) (hr : pos 0 <ℤ r) (hq : pos 0 <ℤ
       in_edge_planes first (q ∷ ps) (both_of (int_lt (pos 0) (cross p q)) (turns_left first (q ∷ ps)) t).1 (both_of (is_edge_near r p q) (are_edges_near r first (q ∷ ps)) u).1 j d (omega arith)
 
 -- in each half-plane of a ring that is near the circle
-inner_in_ring : (r : ℤ) (ps : List V2) (v : Rational) (speed : ℕ) → pos 0 <ℤ r → pos 0 <ℤ v.q → speed ≤ 16384
+inner_in_ring : (r : ℤ) (ps : List V2) (v : Rational) (speed : ℕ) → pos 0 <ℤ r → pos 0 <ℤ v.q → speed ≤ GREATEST_SPEED
     → is_round r ps ≡ true → is_near_round r ps ≡ true → IsInner speed v → All (λ plane. IsIn plane v) (ring_planes_of r ps speed)
 inner_in_ring r [] v speed hr hq hs t u inner = absurd (cc t)
 inner_in_ring r (p ∷ ps) v speed hr hq hs t u inner =
@@ -125,7 +126,7 @@ inner_in_ring r (p ∷ ps) v speed hr hq hs t u inner =
     p (p ∷ ps) (both_of (all_at r (p ∷ ps)) (turns_left p (p ∷ ps)) t).1 u
 
 -- and in each half-plane of a speed polygon, whichever the ring
-pub inner_in_polygon : (v : Rational) (speed : ℕ) → pos 0 <ℤ v.q → speed ≤ 16384 → IsInner speed v → (ring : ℕ) → All (λ plane. IsIn plane v) (ring_planes ring speed)
+pub inner_in_polygon : (v : Rational) (speed : ℕ) → pos 0 <ℤ v.q → speed ≤ GREATEST_SPEED → IsInner speed v → (ring : ℕ) → All (λ plane. IsIn plane v) (ring_planes ring speed)
 inner_in_polygon v speed hq hs inner ring =
     subst (λ planes. All (λ plane. IsIn plane v) planes) (ring_planes_of-ring ring (ring_radius ring) (ring_points ring) speed refl refl)
     (inner_in_ring (ring_radius ring) (ring_points ring) v speed (some_radius ring) hq hs (round ring) (by_ring (λ r ps. is_near_round r ps ≡ true) refl refl ring) inner)

@@ -5,6 +5,7 @@ use Rattle.fixed_vec.specs.declared.vector.V2.{V2}
 use Rattle.fixed_vec.specs.Point.{IsIn, IsShort, Rational}
 use Rattle.crowd_data.specs.Limits.{fine_ring}
 use Rattle.crowd_data.specs.RingPlanes.{all_round, fine_quarter, plain_quarter, ring_planes, ring_points, ring_radius}
+use Rattle.crowd_data.specs.declared.limits.TheConstants.{FINE_RING}
 use Rattle.hard_plane.specs.Ring.{is_round}
 use Rattle.hard_plane.proofs.RingPoints.{length-ring_planes_of, ring_planes_of-ring}
 use Rattle.hard_plane.proofs.SpeedPolygon.{ring_short}
@@ -23,8 +24,8 @@ round = by_ring (λ r ps. is_round r ps ≡ true) refl refl
 pub some_radius : (ring : ℕ) → pos 0 <ℤ ring_radius ring
 some_radius = by_ring (λ r ps. pos 0 <ℤ r) (omega (arith, ints)) (omega (arith, ints))
 
-few_points : (ring : ℕ) → length (ring_points ring) ≤ 60
-few_points = by_ring (λ r ps. length ps ≤ 60) (omega arith) (omega arith)
+few_points : (ring : ℕ) → length (ring_points ring) ≤ FINE_RING
+few_points = by_ring (λ r ps. length ps ≤ FINE_RING) (omega arith) (omega arith)
 
 -- a point of the speed polygon is no longer than the speed less one
 pub polygon_short : (ring speed : ℕ) (p : Rational) → pos 0 <ℤ p.q → All (λ plane. IsIn plane p) (ring_planes ring speed) → IsShort (speed - 1) p
@@ -33,7 +34,7 @@ polygon_short ring speed p point inside =
     (subst (λ planes. All (λ plane. IsIn plane p) planes) (sym (ring_planes_of-ring ring (ring_radius ring) (ring_points ring) speed refl refl)) inside)
 
 -- a speed polygon has at most 60 half-planes
-pub length-ring_planes_le : (ring speed : ℕ) → length (ring_planes ring speed) ≤ 60
+pub length-ring_planes_le : (ring speed : ℕ) → length (ring_planes ring speed) ≤ FINE_RING
 length-ring_planes_le ring speed =
-    subst (λ planes. length planes ≤ 60) (ring_planes_of-ring ring (ring_radius ring) (ring_points ring) speed refl refl)
+    subst (λ planes. length planes ≤ FINE_RING) (ring_planes_of-ring ring (ring_radius ring) (ring_points ring) speed refl refl)
     (rw (length-ring_planes_of (ring_radius ring) (ring_points ring) speed) (few_points ring))

@@ -1,6 +1,7 @@
 -- A point no longer than k is near enough to be rounded, and its rounding is no longer than k + 1.
 use Rattle.std.proofs.Common.{◌≡◌, ℕ, zero, suc, ◌-◌, ◌^◌, ◌≤◌, refl, subst, [], ◌∷◌, arith, ℤ, pos, neg_ℤ, ◌+ℤ◌, ◌-ℤ◌, ◌*ℤ◌, ◌≤ℤ◌, ◌<ℤ◌, unsigned_abs}
 use Rattle.std.proofs.lemmas.Int.{ints}
+use Rattle.crowd_data.specs.declared.limits.TheConstants.{GREATEST_SPEED}
 use Rattle.exact_algebra.specs.Numbers.{floor}
 use Rattle.exact_algebra.proofs.Ring.{quotes, equal, shown}
 use Rattle.exact_algebra.proofs.Order.{square_nonneg, product_nonneg, sum_nonneg, gap_nonneg, cancel}
@@ -80,7 +81,7 @@ rounded_within v speed hq short = by (speed - 1) speed refl short
         (rounded_short v.x v.y v.q (rounded_of v).x (rounded_of v).y (pos (suc k)) hq (omega (arith, ints)) (half_off v.x v.q hq) (half_off v.y v.q hq) short)
 
 -- the coordinates of a short point, near enough for rounding
-pub short_coordinates : (v : Rational) (k : ℕ) → k ≤ 16384 → pos 0 <ℤ v.q → IsShort k v
+pub short_coordinates : (v : Rational) (k : ℕ) → k ≤ GREATEST_SPEED → pos 0 <ℤ v.q → IsShort k v
     → (pos (unsigned_abs v.x) ≤ℤ (v.q *ℤ pos (2 ^ 32))) × (pos (unsigned_abs v.y) ≤ℤ (v.q *ℤ pos (2 ^ 32)))
 short_coordinates v k hk hq short = (one v.x v.y short, one v.y v.x (omega (arith, ints)))
   where

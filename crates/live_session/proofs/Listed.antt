@@ -8,6 +8,7 @@ use Rattle.crowd_data.specs.Limits.{IsPost}
 use Rattle.crowd_data.specs.Run.{script_of, scripted_from}
 use Rattle.crowd_data.specs.Scenario.{IsValid, Parts}
 use Rattle.crowd_data.proofs.ScriptedPosts.{scripted_sound}
+use Rattle.crowd_data.specs.declared.post.TheConstants.{SCRIPT}
 use Rattle.live_session.specs.LiveText.{AreLiveLists, IsLiveList}
 
 -- a frame has at most as many scripted posts as there are
@@ -16,7 +17,7 @@ length-scripted_from place [] number = omega arith
 length-scripted_from place (post ∷ rest) number = by (eqb post.frame number) (length-scripted_from (place + 1) rest number)
   where
     by : (own : Bool) → length (scripted_from (place + 1) rest number) ≤ length rest
-        → length (cond own (record { controller = 16; seq = place; agent = post.agent; vel = post.vel } ∷ scripted_from (place + 1) rest number) (scripted_from (place + 1) rest number)) ≤ length (post ∷ rest)
+        → length (cond own (record { controller = SCRIPT; seq = place; agent = post.agent; vel = post.vel } ∷ scripted_from (place + 1) rest number) (scripted_from (place + 1) rest number)) ≤ length (post ∷ rest)
     by true h = omega arith
     by false h = omega arith
 

@@ -5,6 +5,7 @@ use Rattle.crowd_data.specs.declared.post.Post.{Post}
 use Rattle.crowd_data.specs.declared.post.ScriptPost.{ScriptPost}
 use Rattle.crowd_data.specs.Run.{Snapshot, script_of, scripted_from}
 use Rattle.crowd_data.specs.Scenario.{Parts, controllers_of}
+use Rattle.crowd_data.specs.declared.post.TheConstants.{SCRIPT}
 use Rattle.post_box.specs.Ends.{BoxState, TakerState, Transfers, after_taking}
 use Rattle.post_box.specs.History.{IsBoxPost, posts_by}
 use Rattle.post_box.proofs.Histories.{posts_by-append, posts_by-other}
@@ -15,16 +16,16 @@ use Rattle.live_session.specs.LiveText.{IsLiveList, joined}
 use Rattle.live_session.specs.Running.{IsTaking, lists_of, step_to}
 
 -- no controller has a scripted post
-no_script : (controller : ℕ) → controller < 16 → (place : ℕ) (posts : List ScriptPost) (number : ℕ) → posts_by controller (scripted_from place posts number) ≡ []
+no_script : (controller : ℕ) → controller < SCRIPT → (place : ℕ) (posts : List ScriptPost) (number : ℕ) → posts_by controller (scripted_from place posts number) ≡ []
 no_script controller h place [] number = refl
 no_script controller h place (post ∷ rest) number = by (eqb post.frame number) (no_script controller h (place + 1) rest number)
   where
     scripted : Post
-    scripted = record { controller = 16; seq = place; agent = post.agent; vel = post.vel }
+    scripted = record { controller = SCRIPT; seq = place; agent = post.agent; vel = post.vel }
 
     by : (own : Bool) → posts_by controller (scripted_from (place + 1) rest number) ≡ [] → posts_by controller (cond own (scripted ∷ scripted_from (place + 1) rest number) (scripted_from (place + 1) rest number)) ≡ []
     by true none =
-        let first : posts_by controller (scripted ∷ []) ≡ [] = posts_by-other controller scripted (λ (e : 16 ≡ controller). omega arith) in
+        let first : posts_by controller (scripted ∷ []) ≡ [] = posts_by-other controller scripted (λ (e : SCRIPT ≡ controller). omega arith) in
         posts_by-append controller (scripted ∷ []) (scripted_from (place + 1) rest number) ∙ (λ i. first i ++ none i)
     by false none = none
 
@@ -34,7 +35,7 @@ joined-lists_of [] = refl
 joined-lists_of (step ∷ rest) = ap (λ posts. step.posts ++ posts) (joined-lists_of rest)
 
 -- one list more
-pub taken_more : (controller : ℕ) → controller < 16 → (scenario : Parts) (history : List Step) (frame : Snapshot) (number : ℕ) (posts taken got : List Post) → posts_by controller (posts_of history) ≡ posts_by controller got → posts ≡ script_of scenario number ++ taken
+pub taken_more : (controller : ℕ) → controller < SCRIPT → (scenario : Parts) (history : List Step) (frame : Snapshot) (number : ℕ) (posts taken got : List Post) → posts_by controller (posts_of history) ≡ posts_by controller got → posts ≡ script_of scenario number ++ taken
     → posts_by controller (posts_of (history ++ step_to frame posts ∷ [])) ≡ posts_by controller (got ++ taken)
 taken_more controller h scenario history frame number posts taken got before e =
     let list : posts_by controller posts ≡ posts_by controller taken =
@@ -48,7 +49,7 @@ gathered box scenario history number old new posts taking moved =
     (moved.posts, moved.list, subst (λ (x : ℕ × ℕ). All (IsBoxPost x.0 x.1) moved.posts) (λ i. (taking.controllers i, taking.agents i)) moved.each)
 
 -- and is in the published lists
-pub taking_next : (box : BoxState) (scenario now : Parts) (history more : List Step) (frame : Snapshot) (number : ℕ) (old new : TakerState) (posts : List Post) → controllers_of scenario.goals ≤ 16 → now ≡ scenario → more ≡ history ++ step_to frame posts ∷ []
+pub taking_next : (box : BoxState) (scenario now : Parts) (history more : List Step) (frame : Snapshot) (number : ℕ) (old new : TakerState) (posts : List Post) → controllers_of scenario.goals ≤ SCRIPT → now ≡ scenario → more ≡ history ++ step_to frame posts ∷ []
     → IsTaking box scenario history old → Transfers old new (script_of scenario number) posts → IsTaking box now more new
 taking_next box scenario now history more frame number old new posts few same e taking moved =
     let here : IsTaking box scenario (history ++ step_to frame posts ∷ []) (after_taking old moved.posts) = record {

@@ -3,6 +3,7 @@ ghost use Rattle.std.specs.Prelude.{◌≡◌, ◌<◌, ◌≤◌, All, IfErr, I
 ghost use Rattle.published_frames.specs.declared.reader.FrameReader.{FrameReader};
 ghost use Rattle.published_frames.specs.History.{StartsWith};
 ghost use Rattle.published_frames.specs.Names.{reader_seen, reader_source, writer_history, writer_source};
+ghost use Rattle.published_frames.specs.declared.counts.TheConstants.{CONTROLLERS};
 ghost use Rattle.post_box.specs.Ends.{IsTakerOf};
 ghost use Rattle.outside_io.specs.Sinks.{sink_state};
 ghost use Rattle.live_session.specs.LiveText.{WroteLive, WroteLivePart};
@@ -26,7 +27,7 @@ use std::thread::Threads;
 // The reader of the controller of this number learns of the last frame, and reads once. So what it had seen is a beginning
 // of what was published.
 fn read_last<R: Wait>(rt: &R, writer: &FrameWriter, number: u32, mut reader: FrameReader)
-    requires number { number < 16 }
+    requires number { number < CONTROLLERS }
     requires source { reader_source reader ≡ writer_source writer.now }
     requires last { length (writer_history writer.now) ≡ (writer_source writer.now).1.steps }
     ensures { StartsWith (writer_history writer.now) (reader_seen reader) }
@@ -37,7 +38,7 @@ fn read_last<R: Wait>(rt: &R, writer: &FrameWriter, number: u32, mut reader: Fra
 
 // The same where there is a reader.
 fn read_last_if_any<R: Wait>(rt: &R, writer: &FrameWriter, number: u32, reader: Option<FrameReader>)
-    requires number { number < 16 }
+    requires number { number < CONTROLLERS }
     requires source { IfSome reader (λ r. reader_source r ≡ writer_source writer.now) }
     requires last { length (writer_history writer.now) ≡ (writer_source writer.now).1.steps }
     ensures { IfSome reader (λ r. StartsWith (writer_history writer.now) (reader_seen r)) }
@@ -50,7 +51,7 @@ fn read_last_if_any<R: Wait>(rt: &R, writer: &FrameWriter, number: u32, reader: 
 
 // Each reader, those of the controllers in order of number, learns of the last frame and reads once.
 fn read_last_all<R: Wait>(rt: &R, writer: &FrameWriter, readers: Vec<Option<FrameReader>>)
-    requires few { length readers.items ≤ 16 }
+    requires few { length readers.items ≤ CONTROLLERS }
     requires source { All (λ (reader : Option FrameReader). IfSome reader (λ r. reader_source r ≡ writer_source writer.now)) readers.items }
     requires last { length (writer_history writer.now) ≡ (writer_source writer.now).1.steps }
     ensures { All (λ (reader : Option FrameReader). IfSome reader (λ r. StartsWith (writer_history writer.now) (reader_seen r))) readers.items }

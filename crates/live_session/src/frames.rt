@@ -2,6 +2,7 @@
 ghost use Rattle.std.specs.Prelude.{◌≡◌, ◌+◌, ◌≤◌, ◌<◌, [], All, IfErr, IfOk, OnOk, length};
 ghost use Rattle.crowd_data.specs.Scenario.{controllers_of};
 ghost use Rattle.published_frames.specs.Names.{writer_history, writer_source};
+ghost use Rattle.published_frames.specs.declared.counts.TheConstants.{CONTROLLERS};
 ghost use Rattle.outside_io.specs.Sinks.{sink_state};
 ghost use Rattle.live_session.specs.LiveText.{WroteLivePart};
 ghost use Rattle.live_session.specs.Session.{IsClosing, IsOpen, IsUnderWay};
@@ -26,7 +27,7 @@ use std::thread::{Scope, Threads};
 // Tells each controller what was published last.
 fn renew_all<J: Writes, R: Wait>(rt: &R, notices: &[Notice<J>], writer: &FrameWriter)
     requires book { (writer_source writer.now).0 ≡ J.book }
-    requires few { length notices.now ≤ 16 }
+    requires few { length notices.now ≤ CONTROLLERS }
 {
     for (number, notice) in notices.iter().enumerate() {
         notice.renew(rt, writer, number as u32);

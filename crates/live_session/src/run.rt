@@ -3,6 +3,7 @@ ghost use Rattle.std.specs.Prelude.{◌≡◌, ◌+◌, ◌≤◌, ◌++◌, [],
 ghost use Rattle.crowd_data.specs.Run.{snapshot_of, start_of};
 ghost use Rattle.crowd_data.specs.Scenario.{controllers_of};
 ghost use Rattle.std.specs.Io.KnownBytes.{Appends};
+ghost use Rattle.frame_step.specs.declared.limits.TheConstants.{MOST_WORKERS};
 ghost use Rattle.outside_io.specs.Causes.{HasCause, Wrote};
 ghost use Rattle.frame_text.specs.Transcript.{frame_text, scenario_text};
 ghost use Rattle.published_frames.specs.declared.counts.TheConstants.{CONTROLLERS};
@@ -200,7 +201,7 @@ fn run_whole<R: Threads + Wait + Sync, T: Sink, G: Gate + Sync>(
     gate: &G,
 ) -> (T, Result<(), LiveFault>)
     requires some_workers { 1 ≤ workers }
-    requires workers { workers ≤ 64 }
+    requires workers { workers ≤ MOST_WORKERS }
     requires places { places ≤ CONTROLLERS }
     ensures done { OnOk result.1 (WroteLive scenario (sink_state (T.held out) (T.faults out)) (sink_state (T.held result.0) (T.faults result.0))) }
     ensures fault { IfErr result.1 (WroteLivePart scenario (sink_state (T.held out) (T.faults out)) (sink_state (T.held result.0) (T.faults result.0))) }
@@ -241,7 +242,7 @@ pub fn live_places<R: Threads + Wait + Sync, T: Sink, G: Gate + Sync>(
     gate: &G,
 ) -> Result<(), LiveFault>
     requires some_workers { 1 ≤ workers }
-    requires workers { workers ≤ 64 }
+    requires workers { workers ≤ MOST_WORKERS }
     requires places { places ≤ CONTROLLERS }
     ensures done { OnOk result (WroteLive scenario (sink_state (T.held out.old) (T.faults out.old)) (sink_state (T.held out.new) (T.faults out.new))) }
     ensures fault { IfErr result (WroteLivePart scenario (sink_state (T.held out.old) (T.faults out.old)) (sink_state (T.held out.new) (T.faults out.new))) }
@@ -250,7 +251,7 @@ pub fn live_places<R: Threads + Wait + Sync, T: Sink, G: Gate + Sync>(
         out,
         scenario,
         |out: T, scenario: Scenario| -> (T, Result<(), LiveFault>)
-            requires { (1 ≤ workers) × (workers ≤ 64) × (places ≤ CONTROLLERS) }
+            requires { (1 ≤ workers) × (workers ≤ MOST_WORKERS) × (places ≤ CONTROLLERS) }
             ensures { OnOk result.1 (WroteLive scenario (sink_state (T.held out) (T.faults out)) (sink_state (T.held result.0) (T.faults result.0)))
                 × IfErr result.1 (WroteLivePart scenario (sink_state (T.held out) (T.faults out)) (sink_state (T.held result.0) (T.faults result.0))) }
         { run_whole(rt, alloc, scenario, workers, places, out, gate) },
@@ -267,7 +268,7 @@ pub fn live<R: Threads + Wait + Sync, T: Sink, G: Gate + Sync>(
     gate: &G,
 ) -> Result<(), LiveFault>
     requires some_workers { 1 ≤ workers }
-    requires workers { workers ≤ 64 }
+    requires workers { workers ≤ MOST_WORKERS }
     ensures done { OnOk result (WroteLive scenario (sink_state (T.held out.old) (T.faults out.old)) (sink_state (T.held out.new) (T.faults out.new))) }
     ensures fault { IfErr result (WroteLivePart scenario (sink_state (T.held out.old) (T.faults out.old)) (sink_state (T.held out.new) (T.faults out.new))) }
 {

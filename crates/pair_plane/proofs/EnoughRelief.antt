@@ -2,6 +2,7 @@
 -- farther from the origin than a speed.
 use Rattle.std.proofs.Common.{◌-◌, ◌+◌, ◌≤◌, ◌<◌, ◌*◌, ◌^◌, ℕ, [], ◌∷◌, arith, ℤ, pos, neg_ℤ, ◌+ℤ◌, ◌-ℤ◌, ◌*ℤ◌, ◌≤ℤ◌, ◌<ℤ◌, unsigned_abs}
 use Rattle.std.proofs.lemmas.Int.{ints}
+use Rattle.crowd_data.specs.declared.limits.TheConstants.{GREATEST_SPEED}
 use Rattle.exact_algebra.proofs.Cauchy.{along_le}
 use Rattle.exact_algebra.proofs.Order.{gap_nonneg, product_nonneg, square_nonneg, sum_nonneg}
 use Rattle.exact_algebra.proofs.Ring.{quotes, shown}
@@ -36,7 +37,7 @@ far_enough a b x y q k l c m hq hl hk off against =
     (sum_nonneg _ _ (product_nonneg _ q (gap_nonneg _ _ off) hq) (product_nonneg _ (q *ℤ l) (gap_nonneg _ _ hk) (product_nonneg q l hq hl))))
     (search quotes depth 40 fits 20000) tt
 
-pub in_relieved : (plane : Plane) (k : ℕ) (p : Rational) → k ≤ 16384 → IsPoint p → IsShort k p → IsShareSized plane → IsIn (relieved_of plane 262143) p
+pub in_relieved : (plane : Plane) (k : ℕ) (p : Rational) → k ≤ GREATEST_SPEED → IsPoint p → IsShort k p → IsShareSized plane → IsIn (relieved_of plane 262143) p
 in_relieved plane k p limit point short h =
     let l = whole_length plane.n in
     let some : pos 0 ≤ℤ p.q = omega (arith, ints) in

@@ -11,6 +11,7 @@ use Rattle.crowd_data.specs.declared.pair.Region.{Region}
 use Rattle.crowd_data.specs.declared.pair.Region.TheVariants.{Arc, Overlap}
 use Rattle.crowd_data.specs.Pairs.{IsPair, from_cutoff, held_off, relative_position, overlap_normal, region_of, relative_in, relative_plane, relative_velocity}
 use Rattle.crowd_data.proofs.PairNormals.{overlap_normal-nonzero}
+use Rattle.crowd_data.specs.declared.limits.TheConstants.{GREATEST_SPEED}
 use Rattle.pair_plane.proofs.Legs.{left_sized, right_sized}
 use Rattle.fixed_vec.proofs.Lengths.{length_le}
 use Rattle.pair_plane.proofs.Lengths.{dot_le, square_le}
@@ -35,7 +36,7 @@ overlap_normal_small : (low high : Disc) (tau : ℕ) → IsPair low high tau →
 overlap_normal_small low high tau h =
     by (int_eq (square (minus (relative_velocity low high) (relative_position low high))) (pos 0)) (offset_small low high tau h) (velocity_within low high tau h)
   where
-    by : (b : Bool) → IsBelow (relative_position low high) (2 ^ 16) → IsWithin (relative_velocity low high) 32768
+    by : (b : Bool) → IsBelow (relative_position low high) (2 ^ 16) → IsWithin (relative_velocity low high) (2 * GREATEST_SPEED)
         → IsBelow (cond b (record { x = pos 1; y = pos 0 }) (minus (relative_velocity low high) (relative_position low high))) (2 ^ 17)
     by true p w = (omega arith, omega arith)
     by false p w = (omega (arith, ints), omega (arith, ints))

@@ -9,6 +9,7 @@ use Rattle.fixed_vec.proofs.Squares.{square-opposite}
 use Rattle.crowd_data.specs.declared.pair.Disc.{Disc}
 use Rattle.crowd_data.specs.Limits.{IsVelocity}
 use Rattle.crowd_data.specs.Pairs.{IsPair, higher_share, lack, lower_share, part_of, relative_plane, relative_velocity}
+use Rattle.crowd_data.specs.declared.limits.TheConstants.{GREATEST_SPEED}
 use Rattle.pair_plane.proofs.Lengths.{dot_le, square_le}
 use Rattle.pair_plane.proofs.Parts.{part_abs, rest_abs}
 use Rattle.pair_plane.proofs.RelativePlanes.{relative_sized}
@@ -21,7 +22,7 @@ pub lack_le : (low high : Disc) (tau : ℕ) → IsPair low high tau → unsigned
 lack_le low high tau h =
     by (relative_plane low high tau).c (dot (relative_plane low high tau).n (relative_velocity low high)) (whole_length (relative_plane low high tau).n)
     (relative_sized low high tau h).offset
-    (dot_le (relative_plane low high tau).n (relative_velocity low high) 46341 (omega (arith, ints, square_le (relative_velocity low high) 32768 (velocity_within low high tau h))))
+    (dot_le (relative_plane low high tau).n (relative_velocity low high) 46341 (omega (arith, ints, square_le (relative_velocity low high) (2 * GREATEST_SPEED) (velocity_within low high tau h))))
   where
     by : (c d : ℤ) (l : ℕ) → unsigned_abs c ≤ 131072 * l → unsigned_abs d ≤ 46341 * l → unsigned_abs (c -ℤ d) ≤ 177413 * l
     by c d l p q = omega (arith, ints)
@@ -33,7 +34,7 @@ lack_small low high tau h =
 
 -- a velocity along a normal
 along_le : (n v : V2) → IsVelocity v → unsigned_abs (dot n v) ≤ 23171 * whole_length n
-along_le n v h = dot_le n v 23171 (omega (arith, ints, square_le v 16384 h))
+along_le n v h = dot_le n v 23171 (omega (arith, ints, square_le v GREATEST_SPEED h))
 
 pub lower_sized : (low high : Disc) (tau a b : ℕ) → IsPair low high tau → 1 ≤ b → Sized (lower_share low high tau a b) 200584
 lower_sized low high tau a b h some = record {

@@ -9,7 +9,7 @@ use Rattle.fixed_vec.specs.Vector.{cross, square}
 use Rattle.fixed_vec.specs.HalfPlane.{Plane, FitsPlane}
 use Rattle.fixed_vec.specs.Point.{Rational, FitsPoint}
 use Rattle.planar_line.specs.declared.point64.Point64.{Point64}
-use Rattle.planar_line.specs.Border.{IsPreference, crossing_of, foot_of}
+use Rattle.planar_line.specs.Border.{IsPreference, crossing_of, foot_of, greatest_preference}
 use Rattle.planar_line.specs.Point64.{Take64Bits}
 
 coordinate_below : (z w : ℤ) → (z *ℤ z) <ℤ pos (2 ^ 64) → unsigned_abs z ≤ 2 ^ 32 - 1
@@ -48,7 +48,7 @@ abbrev pub sight : Plane → Rational → V2 → List ℤ
 sight plane p v = plane.n.x ∷ plane.n.y ∷ plane.c ∷ p.x ∷ p.y ∷ p.q ∷ v.x ∷ v.y ∷ []
 
 abbrev pub sight_limits : List ℕ
-sight_limits = side ∷ side ∷ 2 ^ 53 ∷ 2 ^ 87 ∷ 2 ^ 87 ∷ 2 ^ 65 ∷ 16384 ∷ 16384 ∷ []
+sight_limits = side ∷ side ∷ 2 ^ 53 ∷ 2 ^ 87 ∷ 2 ^ 87 ∷ 2 ^ 65 ∷ greatest_preference ∷ greatest_preference ∷ []
 
 pub sight_within : (plane : Plane) (p : Rational) (v : V2) → FitsPlane plane → FitsPoint p → IsPreference v → Within (sight plane p v) sight_limits
 sight_within plane p v h k l =
@@ -60,7 +60,7 @@ abbrev pub outlook : Plane → V2 → List ℤ
 outlook plane v = plane.n.x ∷ plane.n.y ∷ plane.c ∷ v.x ∷ v.y ∷ []
 
 abbrev pub outlook_limits : List ℕ
-outlook_limits = side ∷ side ∷ 2 ^ 53 ∷ 16384 ∷ 16384 ∷ []
+outlook_limits = side ∷ side ∷ 2 ^ 53 ∷ greatest_preference ∷ greatest_preference ∷ []
 
 pub outlook_within : (plane : Plane) (v : V2) → FitsPlane plane → IsPreference v → Within (outlook plane v) outlook_limits
 outlook_within plane v h l = let s = normal_below plane.n h.normal in (s.0, (s.1, (omega (arith, h.offset), (l.across, (l.along, tt)))))

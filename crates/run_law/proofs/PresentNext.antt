@@ -12,11 +12,12 @@ use Rattle.crowd_data.specs.Run.{IsNext, Snapshot, after_posts, body_at, no_body
 use Rattle.crowd_data.specs.Scenario.{IsValid, Parts}
 use Rattle.crowd_data.proofs.Frames.{posted_present}
 use Rattle.crowd_data.proofs.Posts.{agent-after_posts}
+use Rattle.crowd_data.specs.declared.limits.TheConstants.{GREATEST_COORDINATE, GREATEST_SPEED}
 use Rattle.run_law.proofs.Runs.{step_slow, step_sound}
 use Rattle.run_law.proofs.Sound.{present_sound}
 
 -- a step from within so many units with a velocity ends within one step more
-stepped_within : (at vel : V2) (number : ℕ) → IsWithin at (4194304 + 16384 * number) → IsVelocity vel → IsWithin (plus at vel) (4194304 + 16384 * (number + 1))
+stepped_within : (at vel : V2) (number : ℕ) → IsWithin at (GREATEST_COORDINATE + GREATEST_SPEED * number) → IsVelocity vel → IsWithin (plus at vel) (GREATEST_COORDINATE + GREATEST_SPEED * (number + 1))
 stepped_within at vel number within slow = (omega (arith, ints, within, slow), omega (arith, ints, within, slow))
 
 module _ (scenario : Parts) (valid : IsValid scenario) (frame next : Snapshot) (posts : List Post) (present : IsPresent scenario frame)
@@ -30,8 +31,8 @@ module _ (scenario : Parts) (valid : IsValid scenario) (frame next : Snapshot) (
       let vel = step_slow scenario valid frame next posts (present_sound scenario frame present) step who h in
       record {
         pos =
-            subst (λ at. IsWithin at (4194304 + 16384 * next.number)) (sym moved.pos)
-            (subst (λ n. IsWithin (plus (body_at (after_posts posts frame.bodies) who).pos (body_at next.bodies who).vel) (4194304 + 16384 * n)) (sym step.number)
+            subst (λ at. IsWithin at (GREATEST_COORDINATE + GREATEST_SPEED * next.number)) (sym moved.pos)
+            (subst (λ n. IsWithin (plus (body_at (after_posts posts frame.bodies) who).pos (body_at next.bodies who).vel) (GREATEST_COORDINATE + GREATEST_SPEED * n)) (sym step.number)
             (stepped_within (body_at (after_posts posts frame.bodies) who).pos (body_at next.bodies who).vel frame.number before.pos vel));
         vel = vel;
         pref = subst IsVelocity (sym moved.pref) before.pref;

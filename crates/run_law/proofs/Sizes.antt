@@ -8,9 +8,10 @@ use Rattle.exact_algebra.proofs.Sizes.{whole_root_le}
 use Rattle.fixed_vec.specs.declared.vector.V2.{V2}
 use Rattle.fixed_vec.specs.Vector.{square, times}
 use Rattle.crowd_data.specs.Limits.{IsVelocity}
+use Rattle.crowd_data.specs.declared.limits.TheConstants.{GREATEST_RANGE, GREATEST_SPEED}
 
 -- below the square of a range within its limit
-pub near_square : (z : ℤ) (range : ℕ) → unsigned_abs z < range * range → range ≤ 65536 → z <ℤ pos (2 ^ 32)
+pub near_square : (z : ℤ) (range : ℕ) → unsigned_abs z < range * range → range ≤ GREATEST_RANGE → z <ℤ pos (2 ^ 32)
 near_square z range h limit = let l = mul-le-mul limit limit in omega (arith, ints, l)
 
 -- what overlaps is near, as speeds only add to the radii
@@ -36,7 +37,7 @@ coordinate_within x y s short =
     omega (arith, ints, high, low)
 
 -- what keeps a speed within its limit is a velocity
-pub slow_velocity : (v : V2) (speed : ℕ) → square v ≤ℤ (pos speed *ℤ pos speed) → speed ≤ 16384 → IsVelocity v
+pub slow_velocity : (v : V2) (speed : ℕ) → square v ≤ℤ (pos speed *ℤ pos speed) → speed ≤ GREATEST_SPEED → IsVelocity v
 slow_velocity v speed slow limit =
     let x = coordinate_within v.x v.y speed slow in
     let y = coordinate_within v.y v.x speed (omega (arith, ints)) in

@@ -17,9 +17,10 @@ use Rattle.crowd_data.specs.declared.segment.Segment.{Segment}
 use Rattle.crowd_data.specs.declared.post.ScriptPost.{ScriptPost}
 use Rattle.crowd_data.specs.declared.post.Goal.{Goal}
 use Rattle.crowd_data.specs.Limits.{IsAgent, IsGoal, IsPosition, IsScriptPost, IsSegment, IsVelocity}
-use Rattle.crowd_data.specs.declared.limits.TheConstants.{FIRST_VERSION, PLAIN_RING}
+use Rattle.crowd_data.specs.declared.limits.TheConstants.{FIRST_VERSION, GREATEST_COORDINATE, MOST_AGENTS, MOST_SEGMENTS, MOST_STEPS, PLAIN_RING}
 use Rattle.crowd_data.specs.Scenario.{IsValid, Parts}
 use Rattle.crowd_data.specs.Walls.{IsClear}
+use Rattle.scenario_read.specs.declared.generator.TheConstants.{MOST_COLUMNS}
 use Rattle.scenario_read.specs.Generator.{coordinate, drawn, generated, generated_agent, generated_agents, generated_goal, generated_goals, generated_post, generated_posts, generated_segments, half_width, left_wall, lower_wall, right_wall, state_after, upper_wall, velocity}
 
 drawn_lt : (s k m : ℕ) → 0 < m → drawn s k m < m
@@ -43,13 +44,13 @@ record IsPlaced (side : ℕ) (agent : Agent) : Type 0 where
   plain : agent.weight ≡ 1
   fit : IsAgent agent
 
-inside_position : (side : ℕ) (v : V2) → side ≤ 100 → IsInside side v.x → IsInside side v.y → IsPosition v
+inside_position : (side : ℕ) (v : V2) → side ≤ MOST_COLUMNS → IsInside side v.x → IsInside side v.y → IsPosition v
 inside_position side v few x y = (omega (arith, ints, x.low, x.high), omega (arith, ints, y.low, y.high))
 
 velocity_fit : (x y : ℕ) → x < 401 → y < 401 → IsVelocity (velocity x y)
 velocity_fit x y h k = (omega (arith, ints), omega (arith, ints))
 
-agent_placed : (side number s : ℕ) → 1 ≤ side → side ≤ 100 → number < side * side → IsPlaced side (generated_agent side number s)
+agent_placed : (side number s : ℕ) → 1 ≤ side → side ≤ MOST_COLUMNS → number < side * side → IsPlaced side (generated_agent side number s)
 unfolding generated_agent
 agent_placed side number s some few cell =
     let x = coordinate_inside side (number % side) (drawn s 1 1001) (mod-lt number some) (drawn_lt s 1 1001 (omega arith)) in
@@ -82,7 +83,7 @@ agent_placed side number s some few cell =
           };
     }
 
-agents_placed : (side number left s : ℕ) → 1 ≤ side → side ≤ 100 → number + left ≤ side * side → All (IsPlaced side) (generated_agents side number left s)
+agents_placed : (side number left s : ℕ) → 1 ≤ side → side ≤ MOST_COLUMNS → number + left ≤ side * side → All (IsPlaced side) (generated_agents side number left s)
 unfolding generated_agents
 agents_placed side number zero s some few cells = All-nil (IsPlaced side)
 agents_placed side number (suc left) s some few cells =
@@ -152,16 +153,16 @@ placed_clear side agent placed =
     (clear_above agent.pos agent.radius (upper_wall h) (omega (arith, ints)) (omega (arith, ints, placed.y.high, placed.radius)))
     (clear_left agent.pos agent.radius (left_wall h) (omega (arith, ints)) (omega (arith, ints, placed.x.low, placed.radius)))
 
-segments_fit : (side : ℕ) → side ≤ 100 → All IsSegment (generated_segments side)
+segments_fit : (side : ℕ) → side ≤ MOST_COLUMNS → All IsSegment (generated_segments side)
 unfolding generated_segments
 segments_fit side few =
     let h = half_width side in
-    let low : unsigned_abs (neg_ℤ h) ≤ 4194304 = omega (arith, ints) in
-    let high : unsigned_abs h ≤ 4194304 = omega (arith, ints) in
+    let low : unsigned_abs (neg_ℤ h) ≤ GREATEST_COORDINATE = omega (arith, ints) in
+    let high : unsigned_abs h ≤ GREATEST_COORDINATE = omega (arith, ints) in
     all_four IsSegment (lower_wall h) (right_wall h) (upper_wall h) (left_wall h)
     (record { a = (low, low); b = (high, low) }) (record { a = (high, low); b = (high, high) }) (record { a = (high, high); b = (low, high) }) (record { a = (low, high); b = (low, low) })
 
-four_segments : (side : ℕ) → length (generated_segments side) ≤ 2000
+four_segments : (side : ℕ) → length (generated_segments side) ≤ MOST_SEGMENTS
 unfolding generated_segments
 four_segments side = omega arith
 
@@ -210,10 +211,10 @@ length-generated_posts agents frame (suc left) s = ap suc (length-generated_post
 
 -- ---- goals
 
-opposite_inside : (side : ℕ) (v : V2) → side ≤ 100 → IsInside side v.x → IsInside side v.y → IsPosition (opposite v)
+opposite_inside : (side : ℕ) (v : V2) → side ≤ MOST_COLUMNS → IsInside side v.x → IsInside side v.y → IsPosition (opposite v)
 opposite_inside side v few x y = (omega (arith, ints, x.low, x.high), omega (arith, ints, y.low, y.high))
 
-module _ (side count : ℕ) (few : side ≤ 100) where
+module _ (side count : ℕ) (few : side ≤ MOST_COLUMNS) where
   goal_fit : (number : ℕ) (agent : Agent) → number < count → IsPlaced side agent → IsGoal count (generated_goal number agent)
   goal_fit number agent h placed = record {
     controller = omega (arith, mod-lt number {m = 4} (omega arith));
@@ -251,18 +252,18 @@ some_columns agents some = by (ceil_root agents) (ceil_root_reaches agents)
     by zero h = absurd (omega arith)
     by (suc r) h = omega arith
 
-pub few_columns : (agents : ℕ) → agents ≤ 10000 → ceil_root agents ≤ 100
-few_columns agents few = by (ceil_root agents) (ceil_root_first agents 100)
+pub few_columns : (agents : ℕ) → agents ≤ MOST_AGENTS → ceil_root agents ≤ MOST_COLUMNS
+few_columns agents few = by (ceil_root agents) (ceil_root_first agents MOST_COLUMNS)
   where
-    by : (r : ℕ) → (100 < r → 100 * 100 < agents) → r ≤ 100
-    by r first = ⊎_elim (λ more. absurd (omega (arith, first more))) (λ h. h) (cases_lt 100 r)
+    by : (r : ℕ) → (MOST_COLUMNS < r → MOST_COLUMNS * MOST_COLUMNS < agents) → r ≤ MOST_COLUMNS
+    by r first = ⊎_elim (λ more. absurd (omega (arith, first more))) (λ h. h) (cases_lt MOST_COLUMNS r)
 
 -- the agents alone
-pub agents_fit : (number agents : ℕ) → 1 ≤ agents → agents ≤ 10000 → All IsAgent (generated_agents (ceil_root agents) 0 agents number)
+pub agents_fit : (number agents : ℕ) → 1 ≤ agents → agents ≤ MOST_AGENTS → All IsAgent (generated_agents (ceil_root agents) 0 agents number)
 agents_fit number agents some few = λ k d h.
     (agents_placed (ceil_root agents) 0 agents number (some_columns agents some) (few_columns agents few) (omega (arith, ceil_root_reaches agents)) k d h).fit
 
-pub generated_valid : (number agents steps : ℕ) → 1 ≤ agents → agents ≤ 10000 → steps ≤ 100000 → IsValid (generated number agents steps)
+pub generated_valid : (number agents steps : ℕ) → 1 ≤ agents → agents ≤ MOST_AGENTS → steps ≤ MOST_STEPS → IsValid (generated number agents steps)
 generated_valid number agents steps some few few_steps =
     let side = ceil_root agents in
     let columns = few_columns agents few in

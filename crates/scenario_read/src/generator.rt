@@ -5,6 +5,7 @@ ghost use Rattle.crowd_data.specs.Limits.{IsAgent};
 ghost use Rattle.crowd_data.specs.Scenario.{IsValid};
 ghost use Rattle.crowd_data.specs.declared.limits.TheConstants.{MOST_AGENTS, MOST_STEPS};
 ghost use Rattle.scenario_read.specs.Generator.{coordinate, generated, generated_agent, generated_agents, generated_goal, generated_goals, generated_post, generated_posts, generated_segments, place, state_after};
+ghost use Rattle.scenario_read.specs.declared.generator.TheConstants.{MOST_COLUMNS};
 
 use crate::draws::Draws;
 use crowd_data::{
@@ -13,9 +14,12 @@ use crowd_data::{
 use fixed_vec::{List, NoMemory, V2, ceil_root};
 use std::alloc::Global;
 
+// The most columns of the grid: as many rows of them have room for the most agents.
+const MOST_COLUMNS: u32 = 100;
+
 // The coordinate of an agent in its column or row.
 fn coordinate(side: u32, place: u32, drawn: u32) -> i64
-    requires side { side ≤ 100 }
+    requires side { side ≤ MOST_COLUMNS }
     requires place { place ≤ MOST_AGENTS }
     requires drawn { drawn ≤ 1000 }
     ensures { result ≡ coordinate side place drawn }
@@ -27,7 +31,7 @@ fn coordinate(side: u32, place: u32, drawn: u32) -> i64
 #[tactic(auto, unfolding(crate::specs::Generator::state_after))]
 fn generate_place(draws: &mut Draws, side: u32, number: u32) -> V2
     requires some { 1 ≤ side }
-    requires side { side ≤ 100 }
+    requires side { side ≤ MOST_COLUMNS }
     requires number { number < MOST_AGENTS }
     ensures place { result ≡ place side number draws.old.state }
     ensures state { draws.new.state ≡ state_after 2 draws.old.state }
@@ -41,7 +45,7 @@ fn generate_place(draws: &mut Draws, side: u32, number: u32) -> V2
 #[tactic(auto, unfolding(crate::specs::Generator::generated_agent, crate::specs::Generator::state_after))]
 fn generate_agent(draws: &mut Draws, side: u32, number: u32) -> Agent
     requires some { 1 ≤ side }
-    requires side { side ≤ 100 }
+    requires side { side ≤ MOST_COLUMNS }
     requires number { number < MOST_AGENTS }
     ensures agent { result ≡ generated_agent side number draws.old.state }
     ensures state { draws.new.state ≡ state_after 6 draws.old.state }
@@ -71,7 +75,7 @@ fn generate_agents(
     count: u32,
 ) -> Result<List<Agent>, NoMemory>
     requires some { 1 ≤ side }
-    requires side { side ≤ 100 }
+    requires side { side ≤ MOST_COLUMNS }
     requires count { count ≤ MOST_AGENTS }
     ensures agents { IfOk result (λ agents. agents.items ≡ generated_agents side 0 count draws.old.state) }
     ensures state { OnOk result (draws.new.state ≡ state_after (6 * count) draws.old.state) }
@@ -86,7 +90,7 @@ fn generate_agents(
 // The four walls round all cells.
 #[tactic(auto, unfolding(crate::specs::Generator::generated_segments))]
 fn generate_segments(alloc: Global, side: u32) -> Result<List<Segment>, NoMemory>
-    requires { side ≤ 100 }
+    requires { side ≤ MOST_COLUMNS }
     ensures { IfOk result (λ segments. segments.items ≡ generated_segments side) }
 {
     let h = 2000 * i64::from(side) + 3000;

@@ -8,6 +8,8 @@ use Rattle.crowd_data.specs.declared.frame.Body.{Body}
 use Rattle.crowd_data.specs.declared.frame.Mark.{Mark}
 use Rattle.crowd_data.specs.declared.frame.Mark.TheVariants.{Start, Feasible, Fallback, Stopped, Crowded}
 use Rattle.crowd_data.specs.declared.post.Post.{Post}
+use Rattle.crowd_data.specs.declared.limits.TheConstants.{GREATEST_AGENT, GREATEST_SPEED, MOST_AGENTS, MOST_STEPS}
+use Rattle.frame_text.specs.declared.limits.TheConstants.{GREATEST_RELIEF}
 use Rattle.frame_text.specs.Lines.{body_line, end_line, frame_line, mark_word, take_line, vector_text}
 use Rattle.frame_text.specs.Shape.{body_of_row, mark_of_word, number_of_row, post_of_row}
 use Rattle.frame_text.specs.Shaped.{IsPrintedBody, IsPrintedPost}
@@ -75,49 +77,49 @@ mark_plain Fallback = refl
 mark_plain Stopped = refl
 mark_plain Crowded = refl
 
-frame_plain : (n : ℕ) → n ≤ 100000 → ArePlain (frame_row n)
+frame_plain : (n : ℕ) → n ≤ MOST_STEPS → ArePlain (frame_row n)
 frame_plain n h = search (rules, decimal_plain)
 
-end_plain : (n : ℕ) → n ≤ 100000 → ArePlain (end_row n)
+end_plain : (n : ℕ) → n ≤ MOST_STEPS → ArePlain (end_row n)
 end_plain n h = search (rules, decimal_plain)
 
-take_plain : (p : Post) (agents : ℕ) → IsPrintedPost agents p → agents ≤ 10000 → ArePlain (take_row p)
+take_plain : (p : Post) (agents : ℕ) → IsPrintedPost agents p → agents ≤ MOST_AGENTS → ArePlain (take_row p)
 take_plain p agents h small = search (rules, decimal_plain, signed_plain)
 
-body_plain : (b : Body) → IsPrintedBody b → b.agent < 10000 → ArePlain (body_row b)
+body_plain : (b : Body) → IsPrintedBody b → b.agent < MOST_AGENTS → ArePlain (body_row b)
 body_plain b h small = search (rules, decimal_plain, signed_plain, mark_plain)
 
-pub frame_reads : (n : ℕ) (tail : List ℕ) → n ≤ 100000 → records_after st.StartRecord (frame_line n ++ tail) ≡ frame_row n ∷ records_after st.StartRecord tail
+pub frame_reads : (n : ℕ) (tail : List ℕ) → n ≤ MOST_STEPS → records_after st.StartRecord (frame_line n ++ tail) ≡ frame_row n ∷ records_after st.StartRecord tail
 frame_reads n tail h = ap (records_after st.StartRecord) (frame_text n tail) ∙ row_read (codes "frame") (decimal n) [] tail (frame_plain n h)
 
-pub end_reads : (n : ℕ) (tail : List ℕ) → n ≤ 100000 → records_after st.StartRecord (end_line n ++ tail) ≡ end_row n ∷ records_after st.StartRecord tail
+pub end_reads : (n : ℕ) (tail : List ℕ) → n ≤ MOST_STEPS → records_after st.StartRecord (end_line n ++ tail) ≡ end_row n ∷ records_after st.StartRecord tail
 end_reads n tail h = ap (records_after st.StartRecord) (end_text n tail) ∙ row_read (codes "end") (decimal n) [] tail (end_plain n h)
 
-pub take_reads : (agents : ℕ) → agents ≤ 10000 → (p : Post) (tail : List ℕ) → IsPrintedPost agents p → records_after st.StartRecord (take_line p ++ tail) ≡ take_row p ∷ records_after st.StartRecord tail
+pub take_reads : (agents : ℕ) → agents ≤ MOST_AGENTS → (p : Post) (tail : List ℕ) → IsPrintedPost agents p → records_after st.StartRecord (take_line p ++ tail) ≡ take_row p ∷ records_after st.StartRecord tail
 take_reads agents small p tail h = ap (records_after st.StartRecord) (take_text p tail) ∙ row_read (codes "take") (decimal p.controller) _ tail (take_plain p agents h small)
 
-pub body_reads : (b : Body) (tail : List ℕ) → IsPrintedBody b → b.agent < 10000 → records_after st.StartRecord (body_line b ++ tail) ≡ body_row b ∷ records_after st.StartRecord tail
+pub body_reads : (b : Body) (tail : List ℕ) → IsPrintedBody b → b.agent < MOST_AGENTS → records_after st.StartRecord (body_line b ++ tail) ≡ body_row b ∷ records_after st.StartRecord tail
 body_reads b tail h small = ap (records_after st.StartRecord) (body_text b tail) ∙ row_read (codes "body") (decimal b.agent) _ tail (body_plain b h small)
 
 -- ---- what the rows spell
 
-pub frame_number_is : (n : ℕ) → n ≤ 100000 → number_of_row (frame_row n) ≡ Some n
+pub frame_number_is : (n : ℕ) → n ≤ MOST_STEPS → number_of_row (frame_row n) ≡ Some n
 unfolding number_of_row field_at
-frame_number_is n h = rw (count_is (frame_row n) 1 0 100000 n refl (omega arith) h (omega arith)) refl
+frame_number_is n h = rw (count_is (frame_row n) 1 0 MOST_STEPS n refl (omega arith) h (omega arith)) refl
 
-pub end_number_is : (n : ℕ) → n ≤ 100000 → number_of_row (end_row n) ≡ Some n
+pub end_number_is : (n : ℕ) → n ≤ MOST_STEPS → number_of_row (end_row n) ≡ Some n
 unfolding number_of_row field_at
-end_number_is n h = rw (count_is (end_row n) 1 0 100000 n refl (omega arith) h (omega arith)) refl
+end_number_is n h = rw (count_is (end_row n) 1 0 MOST_STEPS n refl (omega arith) h (omega arith)) refl
 
-pub take_is : (p : Post) (agents : ℕ) → IsPrintedPost agents p → agents ≤ 10000 → post_of_row (take_row p) ≡ Some p
+pub take_is : (p : Post) (agents : ℕ) → IsPrintedPost agents p → agents ≤ MOST_AGENTS → post_of_row (take_row p) ≡ Some p
 unfolding post_of_row field_at
 take_is p agents h small =
     let row = take_row p in
     rw (
       count_is row 1 0 16 p.controller refl (omega arith) h.controller (omega arith),
       count_is row 2 0 4294967295 p.seq refl (omega arith) h.seq (omega arith),
-      count_is row 3 0 9999 p.agent refl (omega arith) (omega (arith, h.agent)) (omega arith),
-      vector_is row 4 5 16384 p.vel refl refl h.vel (omega arith),
+      count_is row 3 0 GREATEST_AGENT p.agent refl (omega arith) (omega (arith, h.agent)) (omega arith),
+      vector_is row 4 5 GREATEST_SPEED p.vel refl refl h.vel (omega arith),
     ) refl
 
 mark_is : (m : Mark) → mark_of_word (mark_word m) ≡ Some m
@@ -128,15 +130,15 @@ mark_is Fallback = refl
 mark_is Stopped = refl
 mark_is Crowded = refl
 
-pub body_is : (b : Body) → IsPrintedBody b → b.agent < 10000 → body_of_row (body_row b) ≡ Some b
+pub body_is : (b : Body) → IsPrintedBody b → b.agent < MOST_AGENTS → body_of_row (body_row b) ≡ Some b
 unfolding body_of_row field_at
 body_is b h small =
     let row = body_row b in
     rw (
-      count_is row 1 0 9999 b.agent refl (omega arith) (omega arith) (omega arith),
+      count_is row 1 0 GREATEST_AGENT b.agent refl (omega arith) (omega arith) (omega arith),
       vector_is row 2 3 2147483647 b.pos refl refl h.pos (omega arith),
-      vector_is row 4 5 16384 b.vel refl refl h.vel (omega arith),
-      vector_is row 6 7 16384 b.pref refl refl h.pref (omega arith),
+      vector_is row 4 5 GREATEST_SPEED b.vel refl refl h.vel (omega arith),
+      vector_is row 6 7 GREATEST_SPEED b.pref refl refl h.pref (omega arith),
       mark_is b.mark,
-      count_is row 9 0 262143 b.relief refl (omega arith) h.relief (omega arith),
+      count_is row 9 0 GREATEST_RELIEF b.relief refl (omega arith) h.relief (omega arith),
     ) refl

@@ -8,6 +8,7 @@ use Rattle.csv.specs.Records.{field_at}
 use Rattle.crowd_data.specs.declared.frame.Body.{Body}
 use Rattle.crowd_data.specs.declared.post.Post.{Post}
 use Rattle.crowd_data.specs.Scenario.{Parts}
+use Rattle.crowd_data.specs.declared.limits.TheConstants.{MOST_AGENTS, MOST_STEPS}
 use Rattle.frame_text.specs.Shape.{FramesSoFar, PostedFrame, all_frames, frames_from, is_end, is_whole, with_record}
 use Rattle.frame_text.specs.Shaped.{AreBodies, AreFrames, IsPrintedBody, IsPrintedPost, IsPostedFrame}
 use Rattle.frame_text.specs.Spelling.{last_behind}
@@ -37,7 +38,7 @@ body_no_end : (s : Parts) (f : FramesSoFar) (b : Body) → is_end s f (body_row 
 unfolding is_end field_at
 body_no_end s f b = refl
 
-module _ (s : Parts) (first : ℕ) (few : length s.agents ≤ 10000) (short : s.steps ≤ 100000) where
+module _ (s : Parts) (first : ℕ) (few : length s.agents ≤ MOST_AGENTS) (short : s.steps ≤ MOST_STEPS) where
   -- what the rows from some place behind the scenario's make of the frames so far
   abbrev Yields : FramesSoFar → List Record → Result (List PostedFrame) ℕ → Type 0
   Yields f rest w = (k : ℕ) → first ≤ k → frames_from s first f k rest ≡ w
@@ -117,12 +118,12 @@ module _ (s : Parts) (first : ℕ) (few : length s.agents ≤ 10000) (short : s.
   after_whole : (whole : List PostedFrame) (p : PostedFrame) (n : ℕ) → length p.frame.bodies ≡ length s.agents → is_whole s (so_far whole (n + 1) p.posts p.frame.bodies) ≡ true
   after_whole whole p n e = rw (not_zero n, is_equal (length p.frame.bodies) (length s.agents) e) refl
 
-  end_added : (f : FramesSoFar) (last : ℕ) (k : ℕ) → first ≤ k → is_whole s f ≡ true → last + 1 ≡ f.begun → last ≤ 100000 → frames_from s first f k (end_row last ∷ []) ≡ Ok (all_frames f)
+  end_added : (f : FramesSoFar) (last : ℕ) (k : ℕ) → first ≤ k → is_whole s f ≡ true → last + 1 ≡ f.begun → last ≤ MOST_STEPS → frames_from s first f k (end_row last ∷ []) ≡ Ok (all_frames f)
   unfolding frames_from is_end field_at
   end_added f last k le whole e small = rw (not_less k first le, end_number_is last small, is_equal (last + 1) f.begun e, whole) refl
 
   pub frames_added : (frames : List PostedFrame) (f : FramesSoFar) (last : ℕ) → is_whole s f ≡ true → AreFrames s f.begun frames → 0 < f.begun + length frames
-      → last ≡ last_behind (f.begun - 1) frames → last ≤ 100000 → Yields f (flat_map frame_rows frames ++ end_row last ∷ []) (Ok (all_frames f ++ frames))
+      → last ≡ last_behind (f.begun - 1) frames → last ≤ MOST_STEPS → Yields f (flat_map frame_rows frames ++ end_row last ∷ []) (Ok (all_frames f ++ frames))
   frames_added [] f last whole each some e small = λ k le. end_added f last k le whole (omega arith) small ∙ ap Ok (sym (append-nil (all_frames f)))
   frames_added (p ∷ rest) f last whole each some e small =
       let fits = each.1 in

@@ -5,7 +5,7 @@ use Rattle.std.specs.Fmt.{decimal, signed_decimal}
 use Rattle.std.proofs.lemmas.List.{append-nil}
 use Rattle.csv.specs.declared.parser.State.TheVariants as st
 use Rattle.crowd_data.specs.declared.agent.Agent.{Agent}
-use Rattle.crowd_data.specs.declared.limits.TheConstants.{FINE_RING, FIRST_VERSION}
+use Rattle.crowd_data.specs.declared.limits.TheConstants.{FINE_RING, FIRST_VERSION, MOST_AGENTS, MOST_STEPS}
 use Rattle.crowd_data.specs.declared.segment.Segment.{Segment}
 use Rattle.crowd_data.specs.declared.post.ScriptPost.{ScriptPost}
 use Rattle.crowd_data.specs.declared.post.Goal.{Goal}
@@ -105,7 +105,7 @@ goal_text g tail =
 
 -- ---- the lines as records
 
-steps_plain : (n : ℕ) → n ≤ 100000 → ArePlain (steps_row n)
+steps_plain : (n : ℕ) → n ≤ MOST_STEPS → ArePlain (steps_row n)
 steps_plain n h = search (rules, decimal_plain)
 
 agent_plain : (version : ℕ) (a : Agent) → IsAgent a → ArePlain (agent_row version a)
@@ -119,10 +119,10 @@ segment_plain : (s : Segment) → IsSegment s → ArePlain (segment_row s)
 segment_plain s h = search (rules, signed_plain)
 
 -- a post of a scenario with some steps and agents within their limits
-post_plain : (steps agents : ℕ) → steps ≤ 100000 → agents ≤ 10000 → (p : ScriptPost) → IsScriptPost steps agents p → ArePlain (post_row p)
+post_plain : (steps agents : ℕ) → steps ≤ MOST_STEPS → agents ≤ MOST_AGENTS → (p : ScriptPost) → IsScriptPost steps agents p → ArePlain (post_row p)
 post_plain steps agents few_steps few_agents p h = search (rules, decimal_plain, signed_plain)
 
-goal_plain : (agents : ℕ) → agents ≤ 10000 → (g : Goal) → IsGoal agents g → ArePlain (goal_row g)
+goal_plain : (agents : ℕ) → agents ≤ MOST_AGENTS → (g : Goal) → IsGoal agents g → ArePlain (goal_row g)
 goal_plain agents few_agents g h = search (rules, decimal_plain, signed_plain)
 
 header_plain : (version : ℕ) → version ≤ 2 → ArePlain (header_row version)
@@ -145,7 +145,7 @@ ring_reads points tail h = by (points == FINE_RING) refl
         ∙ row_read (codes "ring") (decimal points) [] tail (ring_plain points h))
     by false e = rw e refl
 
-pub steps_reads : (n : ℕ) (tail : List ℕ) → n ≤ 100000 → records_after st.StartRecord (steps_line n ++ tail) ≡ steps_row n ∷ records_after st.StartRecord tail
+pub steps_reads : (n : ℕ) (tail : List ℕ) → n ≤ MOST_STEPS → records_after st.StartRecord (steps_line n ++ tail) ≡ steps_row n ∷ records_after st.StartRecord tail
 steps_reads n tail h = ap (records_after st.StartRecord) (steps_text n tail) ∙ row_read (codes "steps") (decimal n) [] tail (steps_plain n h)
 
 pub agent_reads : (version : ℕ) (a : Agent) (tail : List ℕ) → IsAgent a → records_after st.StartRecord (agent_line version a ++ tail) ≡ agent_row version a ∷ records_after st.StartRecord tail
@@ -156,12 +156,12 @@ pub segment_reads : (s : Segment) (tail : List ℕ) → IsSegment s → records_
 segment_reads s tail h =
     ap (records_after st.StartRecord) (segment_text s tail) ∙ row_read (codes "segment") (signed_decimal s.a.x) _ tail (segment_plain s h)
 
-pub post_reads : (steps agents : ℕ) → steps ≤ 100000 → agents ≤ 10000 → (p : ScriptPost) (tail : List ℕ) → IsScriptPost steps agents p
+pub post_reads : (steps agents : ℕ) → steps ≤ MOST_STEPS → agents ≤ MOST_AGENTS → (p : ScriptPost) (tail : List ℕ) → IsScriptPost steps agents p
     → records_after st.StartRecord (post_line p ++ tail) ≡ post_row p ∷ records_after st.StartRecord tail
 post_reads steps agents few_steps few_agents p tail h =
     ap (records_after st.StartRecord) (post_text p tail) ∙ row_read (codes "post") (decimal p.frame) _ tail (post_plain steps agents few_steps few_agents p h)
 
-pub goal_reads : (agents : ℕ) → agents ≤ 10000 → (g : Goal) (tail : List ℕ) → IsGoal agents g
+pub goal_reads : (agents : ℕ) → agents ≤ MOST_AGENTS → (g : Goal) (tail : List ℕ) → IsGoal agents g
     → records_after st.StartRecord (goal_line g ++ tail) ≡ goal_row g ∷ records_after st.StartRecord tail
 goal_reads agents few_agents g tail h =
     ap (records_after st.StartRecord) (goal_text g tail) ∙ row_read (codes "goal") (decimal g.controller) _ tail (goal_plain agents few_agents g h)

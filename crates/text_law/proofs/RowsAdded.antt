@@ -10,7 +10,7 @@ use Rattle.crowd_data.specs.declared.segment.Segment.{Segment}
 use Rattle.crowd_data.specs.declared.post.ScriptPost.{ScriptPost}
 use Rattle.crowd_data.specs.declared.post.Goal.{Goal}
 use Rattle.crowd_data.specs.Limits.{IsAgent, IsGoal, IsRing, IsScriptPost, IsSegment, IsVersion}
-use Rattle.crowd_data.specs.declared.limits.TheConstants.{FINE_RING, PLAIN_RING}
+use Rattle.crowd_data.specs.declared.limits.TheConstants.{FINE_RING, MOST_AGENTS, MOST_POSTS, MOST_SEGMENTS, MOST_STEPS, PLAIN_RING}
 use Rattle.crowd_data.specs.Scenario.{IsValid, Parts}
 use Rattle.scenario_read.specs.Read.{Read, nothing_read}
 use Rattle.scenario_read.specs.Reading.{ended, outcome, outcome_from, with_kind, with_record}
@@ -53,18 +53,18 @@ reading version ring n agents segments posts goals =
 record FitAgents (version : ℕ) (agents : List Agent) : Type 0 where
   each : All IsAgent agents
   plain : version ≡ 1 → All (λ (agent : Agent). agent.weight ≡ 1) agents
-  count : length agents ≤ 10000
+  count : length agents ≤ MOST_AGENTS
 
 agent_added : (version ring n : ℕ) (done : List Agent) (a : Agent) (later : List Agent) → FitAgents version (done ++ a ∷ later)
     → with_record (reading version ring n done [] [] []) (agent_row version a) ≡ Ok (reading version ring n (done ++ a ∷ []) [] [] [])
 unfolding with_record with_kind field_at
 agent_added version ring n done a later fit =
-    let room : length done < 10000 = omega (arith, some_more done a later, fit.count) in
-    rw (agent_is version a (next_one done a later IsAgent fit.each) (λ e. next_one done a later (λ (agent : Agent). agent.weight ≡ 1) (fit.plain e)), is_less (length done) 10000 room) refl
+    let room : length done < MOST_AGENTS = omega (arith, some_more done a later, fit.count) in
+    rw (agent_is version a (next_one done a later IsAgent fit.each) (λ e. next_one done a later (λ (agent : Agent). agent.weight ≡ 1) (fit.plain e)), is_less (length done) MOST_AGENTS room) refl
 
 record FitSegments (segments : List Segment) : Type 0 where
   each : All IsSegment segments
-  count : length segments ≤ 2000
+  count : length segments ≤ MOST_SEGMENTS
 
 segment_added : (version ring n : ℕ) (agents : List Agent) (done : List Segment) (s : Segment) (later : List Segment) → FitSegments (done ++ s ∷ later)
     → with_record (reading version ring n agents done [] []) (segment_row s) ≡ Ok (reading version ring n agents (done ++ s ∷ []) [] [])
@@ -75,19 +75,19 @@ segment_added version ring n agents done s later fit =
 
 record FitPosts (n agents : ℕ) (posts : List ScriptPost) : Type 0 where
   each : All (IsScriptPost n agents) posts
-  count : length posts ≤ 100000
+  count : length posts ≤ MOST_POSTS
   order : AllPairs (λ (p : ScriptPost) (q : ScriptPost). p.frame ≤ q.frame) posts
 
 post_added : (version ring n : ℕ) (agents : List Agent) (segments : List Segment) (done : List ScriptPost) (p : ScriptPost) (later : List ScriptPost)
-    → n ≤ 100000 → length agents ≤ 10000 → FitPosts n (length agents) (done ++ p ∷ later)
+    → n ≤ MOST_STEPS → length agents ≤ MOST_AGENTS → FitPosts n (length agents) (done ++ p ∷ later)
     → with_record (reading version ring n agents segments done []) (post_row p) ≡ Ok (reading version ring n agents segments (done ++ p ∷ []) [])
 unfolding with_record with_kind field_at
 post_added version ring n agents segments done p later few_steps few_agents fit =
-    let room : length done < 100000 = omega (arith, some_more done p later, fit.count) in
+    let room : length done < MOST_POSTS = omega (arith, some_more done p later, fit.count) in
     let is_fit = next_one done p later (IsScriptPost n (length agents)) fit.each in
     rw (
       post_is n (length agents) few_steps few_agents p is_fit,
-      is_less (length done) 100000 room,
+      is_less (length done) MOST_POSTS room,
       not_less n p.frame is_fit.frame,
       not_at_most (length agents) p.agent is_fit.agent,
       next_keeps_order done p later fit.order,
@@ -98,7 +98,7 @@ record FitGoals (agents : ℕ) (goals : List Goal) : Type 0 where
   one_goal : AllPairs (λ (g : Goal) (h : Goal). g.agent ≢ h.agent) goals
 
 goal_added : (version ring n : ℕ) (agents : List Agent) (segments : List Segment) (posts : List ScriptPost) (done : List Goal) (g : Goal) (later : List Goal)
-    → length agents ≤ 10000 → FitGoals (length agents) (done ++ g ∷ later)
+    → length agents ≤ MOST_AGENTS → FitGoals (length agents) (done ++ g ∷ later)
     → with_record (reading version ring n agents segments posts done) (goal_row g) ≡ Ok (reading version ring n agents segments posts (done ++ g ∷ []))
 unfolding with_record with_kind field_at
 goal_added version ring n agents segments posts done g later few_agents fit =
@@ -111,7 +111,7 @@ header_added : (version : ℕ) → IsVersion version → with_record nothing_rea
 unfolding with_record
 header_added version known = rw (header_is version known) refl
 
-steps_added : (version n : ℕ) → n ≤ 100000
+steps_added : (version n : ℕ) → n ≤ MOST_STEPS
     → with_record (record nothing_read { version = Some version }) (steps_row n) ≡ Ok (record nothing_read { version = Some version; steps = Some n })
 unfolding with_record with_kind field_at
 steps_added version n h = rw (steps_is n h) refl

@@ -10,6 +10,8 @@ use Rattle.crowd_data.specs.Present.{IsBody, IsPresent}
 use Rattle.crowd_data.specs.Run.{Follow, IsNext, IsRun, Snapshot, after_posts, body_at, no_body, start_of, starting_bodies, starting_body}
 use Rattle.crowd_data.specs.Scenario.{IsValid, Parts}
 use Rattle.crowd_data.proofs.Frames.{posted_present, start_present}
+use Rattle.crowd_data.specs.declared.limits.TheConstants.{MOST_STEPS}
+use Rattle.frame_text.specs.declared.limits.TheConstants.{GREATEST_RELIEF}
 use Rattle.frame_text.specs.Shape.{PostedFrame}
 use Rattle.frame_text.specs.Shaped.{AreBodies, AreFrames, IsPostedFrame, IsPrintedPost, IsShaped}
 use Rattle.agent_step.proofs.ReliefLimit.{advised_relief}
@@ -24,7 +26,7 @@ posted_frames (posts ∷ lists) (frame ∷ rest) = record { posts = posts; frame
 -- ---- bodies
 
 abbrev IsLittle : Body → Type 0
-IsLittle body = body.relief ≤ 262143
+IsLittle body = body.relief ≤ GREATEST_RELIEF
 
 starting_little : (number : ℕ) (agents : List Agent) → All IsLittle (starting_bodies number agents)
 starting_little number [] = All-nil IsLittle
@@ -36,12 +38,12 @@ record IsPrintable (s : Parts) (frame : Snapshot) : Type 0 where
   present : IsPresent s frame
   little : All IsLittle frame.bodies
 
-bodies_from : (number who : ℕ) (bodies : List Body) → number ≤ 100000 → ((k : ℕ) → k < length bodies → (body_at bodies k).agent ≡ who + k) → All (IsBody number) bodies → All IsLittle bodies
+bodies_from : (number who : ℕ) (bodies : List Body) → number ≤ MOST_STEPS → ((k : ℕ) → k < length bodies → (body_at bodies k).agent ≡ who + k) → All (IsBody number) bodies → All IsLittle bodies
     → AreBodies who bodies
 bodies_from number who [] le numbered all little = tt
 bodies_from number who (body ∷ bodies) le numbered all little =
     let one = All-head (IsBody number) body bodies all in
-    let relief : body.relief ≤ 262143 = All-head IsLittle body bodies little in
+    let relief : body.relief ≤ GREATEST_RELIEF = All-head IsLittle body bodies little in
     let first = numbered zero (omega arith) in (
       omega (arith, first),
       record { pos = (omega (arith, one.pos), omega (arith, one.pos)); vel = one.vel; pref = one.pref; relief = relief },

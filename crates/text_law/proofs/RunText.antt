@@ -8,6 +8,7 @@ use Rattle.crowd_data.specs.Limits.{IsScriptPost}
 use Rattle.crowd_data.specs.Run.{Follow, IsRun, Snapshot, script_of, scripted_from, scripts_from, scripts_of}
 use Rattle.crowd_data.specs.Scenario.{IsValid, Parts}
 use Rattle.crowd_data.proofs.ScriptedPosts.{scripted}
+use Rattle.crowd_data.specs.declared.limits.TheConstants.{MOST_POSTS}
 use Rattle.frame_text.specs.Shaped.{IsPrintedPost}
 use Rattle.frame_text.specs.Spelling.{text_of}
 use Rattle.frame_text.specs.Transcript.{transcript_text}
@@ -53,7 +54,7 @@ accepted s valid lists printed text (frames, run, is) =
     (posted, shaped, record { read = read; no_cause = only_memory _ s posted read })
 
 -- scripted posts are within their limits
-scripted_printed : (steps agents : ℕ) (posts : List ScriptPost) (place number : ℕ) → place + length posts ≤ 100000 → All (IsScriptPost steps agents) posts → All (IsPrintedPost agents) (scripted_from place posts number)
+scripted_printed : (steps agents : ℕ) (posts : List ScriptPost) (place number : ℕ) → place + length posts ≤ MOST_POSTS → All (IsScriptPost steps agents) posts → All (IsPrintedPost agents) (scripted_from place posts number)
 scripted_printed steps agents [] place number few all = All-nil (IsPrintedPost agents)
 scripted_printed steps agents (post ∷ rest) place number few all =
     by (eqb post.frame number) (All-head (IsScriptPost steps agents) post rest all)

@@ -7,7 +7,7 @@ use Rattle.csv.specs.Records.{field_at}
 use Rattle.csv.specs.declared.parser.State.TheVariants as st
 use Rattle.crowd_data.specs.declared.agent.Agent.{Agent}
 use Rattle.crowd_data.specs.declared.frame.Body.{Body}
-use Rattle.crowd_data.specs.declared.limits.TheConstants.{FINE_RING}
+use Rattle.crowd_data.specs.declared.limits.TheConstants.{FINE_RING, MOST_AGENTS, MOST_STEPS}
 use Rattle.crowd_data.specs.declared.segment.Segment.{Segment}
 use Rattle.crowd_data.specs.declared.post.ScriptPost.{ScriptPost}
 use Rattle.crowd_data.specs.declared.post.Goal.{Goal}
@@ -41,7 +41,7 @@ text_of_is s frames =
     ∙ ap (λ (t : List ℕ). scenario_text s ++ (frames_text frames ++ t)) (sym (append-nil last))
     ∙ text_is s (frames_text frames ++ (last ++ []))
 
-module _ (s : Parts) (few : length s.agents ≤ 10000) (short : s.steps ≤ 100000) where
+module _ (s : Parts) (few : length s.agents ≤ MOST_AGENTS) (short : s.steps ≤ MOST_STEPS) where
   bodies_then : (bs : List Body) (who : ℕ) (tail : List ℕ) → AreBodies who bs → who + length bs ≤ length s.agents
       → records_after st.StartRecord (flat_map body_line bs ++ tail) ≡ map body_row bs ++ records_after st.StartRecord tail
   bodies_then [] who tail each room = refl
@@ -145,7 +145,7 @@ regroup s rest =
     ap (λ (t : List Record). header_row s.version ∷ steps_row s.steps ∷ t) (five_then (ring_rows s.ring) (map (agent_row s.version) s.agents) (map segment_row s.segments) (map post_row s.posts) (map goal_row s.goals) rest)
 
 module _ (s : Parts) (frames : List PostedFrame) (valid : IsValid s) (shaped : IsShaped s frames) where
-  last_fits : last_behind 0 frames ≤ 100000
+  last_fits : last_behind 0 frames ≤ MOST_STEPS
   last_fits = let le = last_small s 0 valid.agent_count valid.steps frames 0 0 (omega arith) shaped.each in let most = valid.steps in omega arith
 
   reads_as_rows : records_of (text_of s frames) ≡ transcript_rows s frames

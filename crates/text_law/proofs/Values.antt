@@ -7,7 +7,7 @@ use Rattle.std.proofs.lemmas.Int.{ints}
 use Rattle.csv.specs.Records.{field_at}
 use Rattle.fixed_vec.specs.declared.vector.V2.{V2}
 use Rattle.crowd_data.specs.declared.agent.Agent.{Agent}
-use Rattle.crowd_data.specs.declared.limits.TheConstants.{FINE_RING, FIRST_VERSION, PLAIN_RING}
+use Rattle.crowd_data.specs.declared.limits.TheConstants.{FINE_RING, FIRST_VERSION, GREATEST_AGENT, GREATEST_COORDINATE, GREATEST_HORIZON, GREATEST_RADIUS, GREATEST_RANGE, GREATEST_SPEED, MOST_AGENTS, MOST_STEPS, PLAIN_RING}
 use Rattle.crowd_data.specs.declared.segment.Segment.{Segment}
 use Rattle.crowd_data.specs.declared.post.ScriptPost.{ScriptPost}
 use Rattle.crowd_data.specs.declared.post.Goal.{Goal}
@@ -52,14 +52,14 @@ vector_is fields k l most v e f h small = rw (coordinate_is fields k most v.x e 
 
 -- ---- a row
 
-pub steps_is : (n : ℕ) → n ≤ 100000 → steps_of (steps_row n) ≡ Ok n
+pub steps_is : (n : ℕ) → n ≤ MOST_STEPS → steps_of (steps_row n) ≡ Ok n
 unfolding steps_of field_at
-steps_is n h = count_is (steps_row n) 1 0 100000 n refl (omega arith) h (omega arith)
+steps_is n h = count_is (steps_row n) 1 0 MOST_STEPS n refl (omega arith) h (omega arith)
 
 pub segment_is : (s : Segment) → IsSegment s → segment_of (segment_row s) ≡ Ok s
 unfolding segment_of field_at
 segment_is s h =
-    rw (vector_is (segment_row s) 1 2 4194304 s.a refl refl h.a (omega arith), vector_is (segment_row s) 3 4 4194304 s.b refl refl h.b (omega arith)) refl
+    rw (vector_is (segment_row s) 1 2 GREATEST_COORDINATE s.a refl refl h.a (omega arith), vector_is (segment_row s) 3 4 GREATEST_COORDINATE s.b refl refl h.b (omega arith)) refl
 
 -- the weight, where it is 1 in version 1
 weight_is : (version : ℕ) (a : Agent) → IsAgent a → (version ≡ 1 → a.weight ≡ 1) → weight_in version (agent_row version a) ≡ Ok a.weight
@@ -83,15 +83,15 @@ agent_is version a h plain =
     let fields = agent_row version a in
     rw (
       length_is version a,
-      vector_is fields 1 2 4194304 a.pos refl refl h.pos (omega arith),
-      vector_is fields 3 4 16384 a.vel refl refl h.vel (omega arith),
-      vector_is fields 5 6 16384 a.pref refl refl h.pref (omega arith),
-      count_is fields 7 1 32768 a.radius refl h.build.some_radius h.build.radius (omega arith),
-      count_is fields 8 0 16384 a.speed refl (omega arith) h.build.speed (omega arith),
-      count_is fields 9 0 65536 a.range refl (omega arith) h.build.range (omega arith),
+      vector_is fields 1 2 GREATEST_COORDINATE a.pos refl refl h.pos (omega arith),
+      vector_is fields 3 4 GREATEST_SPEED a.vel refl refl h.vel (omega arith),
+      vector_is fields 5 6 GREATEST_SPEED a.pref refl refl h.pref (omega arith),
+      count_is fields 7 1 GREATEST_RADIUS a.radius refl h.build.some_radius h.build.radius (omega arith),
+      count_is fields 8 0 GREATEST_SPEED a.speed refl (omega arith) h.build.speed (omega arith),
+      count_is fields 9 0 GREATEST_RANGE a.range refl (omega arith) h.build.range (omega arith),
       count_is fields 10 0 64 a.most refl (omega arith) h.build.most (omega arith),
-      count_is fields 11 1 4096 a.horizon refl h.build.some_horizon h.build.horizon (omega arith),
-      count_is fields 12 1 4096 a.wall_horizon refl h.build.some_wall_horizon h.build.wall_horizon (omega arith),
+      count_is fields 11 1 GREATEST_HORIZON a.horizon refl h.build.some_horizon h.build.horizon (omega arith),
+      count_is fields 12 1 GREATEST_HORIZON a.wall_horizon refl h.build.some_wall_horizon h.build.wall_horizon (omega arith),
       weight_is version a h plain,
     ) refl
 
@@ -106,26 +106,26 @@ unfolding field_at
 header_is version (inl e) = subst (λ v. header_version (header_row v) ≡ Some v) (sym e) (rw (decimal_digit 1 (omega arith)) refl)
 header_is version (inr e) = subst (λ v. header_version (header_row v) ≡ Some v) (sym e) (rw (decimal_digit 2 (omega arith)) refl)
 
-pub post_is : (steps agents : ℕ) → steps ≤ 100000 → agents ≤ 10000 → (p : ScriptPost) → IsScriptPost steps agents p → post_of (post_row p) ≡ Ok p
+pub post_is : (steps agents : ℕ) → steps ≤ MOST_STEPS → agents ≤ MOST_AGENTS → (p : ScriptPost) → IsScriptPost steps agents p → post_of (post_row p) ≡ Ok p
 unfolding post_of field_at
 post_is steps agents few_steps few_agents p h =
     let fields = post_row p in
-    let frame : p.frame ≤ 100000 = omega (arith, h.frame) in
-    let agent : p.agent ≤ 9999 = omega (arith, h.agent) in
+    let frame : p.frame ≤ MOST_STEPS = omega (arith, h.frame) in
+    let agent : p.agent ≤ GREATEST_AGENT = omega (arith, h.agent) in
     rw (
-      count_is fields 1 1 100000 p.frame refl h.some_frame frame (omega arith),
-      count_is fields 2 0 9999 p.agent refl (omega arith) agent (omega arith),
-      vector_is fields 3 4 16384 p.vel refl refl h.vel (omega arith),
+      count_is fields 1 1 MOST_STEPS p.frame refl h.some_frame frame (omega arith),
+      count_is fields 2 0 GREATEST_AGENT p.agent refl (omega arith) agent (omega arith),
+      vector_is fields 3 4 GREATEST_SPEED p.vel refl refl h.vel (omega arith),
     ) refl
 
-pub goal_is : (agents : ℕ) → agents ≤ 10000 → (g : Goal) → IsGoal agents g → goal_of (goal_row g) ≡ Ok g
+pub goal_is : (agents : ℕ) → agents ≤ MOST_AGENTS → (g : Goal) → IsGoal agents g → goal_of (goal_row g) ≡ Ok g
 unfolding goal_of field_at
 goal_is agents few_agents g h =
     let fields = goal_row g in
-    let agent : g.agent ≤ 9999 = omega (arith, h.agent) in
+    let agent : g.agent ≤ GREATEST_AGENT = omega (arith, h.agent) in
     rw (
       count_is fields 1 0 15 g.controller refl (omega arith) h.controller (omega arith),
-      count_is fields 2 0 9999 g.agent refl (omega arith) agent (omega arith),
-      vector_is fields 3 4 4194304 g.at refl refl h.at (omega arith),
-      count_is fields 5 0 16384 g.pace refl (omega arith) h.pace (omega arith),
+      count_is fields 2 0 GREATEST_AGENT g.agent refl (omega arith) agent (omega arith),
+      vector_is fields 3 4 GREATEST_COORDINATE g.at refl refl h.at (omega arith),
+      count_is fields 5 0 GREATEST_SPEED g.pace refl (omega arith) h.pace (omega arith),
     ) refl

@@ -11,7 +11,7 @@ use Rattle.work_claim.specs.declared.view.RoundView.{RoundView}
 use Rattle.work_claim.specs.Counts.{IsEachOnce, occurrences, total}
 use Rattle.work_claim.specs.Rule.{Fits, IsKept}
 use Rattle.work_claim.specs.Steps.{Begins, Draws, Looks}
-use Rattle.work_claim.specs.Views.{begun, lending, lent, spent, with_claimer}
+use Rattle.work_claim.specs.Views.{all_parts, begun, lending, lent, most_claimers, spent, with_claimer}
 use Rattle.work_claim.proofs.Sums.{alone, occurrences_append, occurrences_here, occurrences_other, others_none, part_le, total_le, total_set, total_snoc, total_twice}
 
 module _ (size : ℕ) where
@@ -51,7 +51,7 @@ module _ (size : ℕ) where
         let d = k.high in omega arith
 
     -- a seat that has all parts, at a counter past the round, drew each number once
-    whole : (id : ℕ) (v : RoundView) → get_elem? s.views id ≡ some v → k.start + size ≤ count → v.parts ≡ 65 → IsEachOnce v.pieces v.drawn
+    whole : (id : ℕ) (v : RoundView) → get_elem? s.views id ≡ some v → k.start + size ≤ count → v.parts ≡ all_parts → IsEachOnce v.pieces v.drawn
     whole id v at full all =
         let f = k.each id v at in
         let same = f.same (omega arith) in
@@ -121,7 +121,7 @@ module _ (size : ℕ) where
         }
 
     -- a round begins
-    fresh : (id : ℕ) (v : RoundView) (ws : List ℕ) → get_elem? s.views id ≡ some v → v.is_root ≡ true → v.parts ≡ 65 → v.rounds < 2 ^ 31 → length ws ≡ 1 → slice_index ws 0 ≡ count
+    fresh : (id : ℕ) (v : RoundView) (ws : List ℕ) → get_elem? s.views id ≡ some v → v.is_root ≡ true → v.parts ≡ all_parts → v.rounds < 2 ^ 31 → length ws ≡ 1 → slice_index ws 0 ≡ count
         → IsKept size record { words = ws; homes = s.homes; views = set s.views id (begun v count) }
     fresh id v ws at leads full may one now =
         let w : RoundView = begun v count in
@@ -161,7 +161,7 @@ module _ (size : ℕ) where
         }
 
     -- the root lends a claimer
-    forked : (id : ℕ) (v : RoundView) → get_elem? s.views id ≡ some v → v.is_root ≡ true → v.lent < 64
+    forked : (id : ℕ) (v : RoundView) → get_elem? s.views id ≡ some v → v.is_root ≡ true → v.lent < most_claimers
         → IsKept size record { words = s.words; homes = s.homes; views = set s.views id (lending v) ++ lent v ∷ [] }
     forked id v at leads may =
         let l : RoundView = lending v in
@@ -264,7 +264,7 @@ module _ (size : ℕ) where
         let w : RoundView = record v { drawn = v.drawn ++ m ∷ [] } in
         (w, keeps, tt, inside s k id v ws m at part is lt one now, (refl, omega arith, inl (m, omega arith, record { below = omega arith; view = refl; earlier = omega arith }))))
 
-    pub begins : me.0.is_root ≡ true → me.0.parts ≡ 65 → me.0.rounds < 2 ^ 31 → Allows Rule slots id me 0 (λ n. n) (Begins (step slots 0 0 0 none) me)
+    pub begins : me.0.is_root ≡ true → me.0.parts ≡ all_parts → me.0.rounds < 2 ^ 31 → Allows Rule slots id me 0 (λ n. n) (Begins (step slots 0 0 0 none) me)
     begins leads full may s k len at below =
         let v = me.0 in
         let n : ℕ = slice_index s.words 0 in
@@ -277,7 +277,7 @@ module _ (size : ℕ) where
         let f = k.each id v at in
         (v, keeps, tt, subst Rule (λ i. record { words = sym (set-get_or s.words 0 0) i; homes = s.homes; views = sym (set_again s.views id v at) i }) k, (refl, λ all ends. whole s k id v at (f.ended ends) all))
 
-    pub splits : me.0.is_root ≡ true → me.0.lent < 64 → Splits Rule id me.0 (lending me.0) (lent me.0)
+    pub splits : me.0.is_root ≡ true → me.0.lent < most_claimers → Splits Rule id me.0 (lending me.0) (lent me.0)
     splits leads may s k at = forked s k id me.0 at leads may
 
     pub joins : (other : ℕ) (w : RoundView) → me.0.is_root ≡ true → Joins Rule id me.0 other w (with_claimer me.0 w) spent

@@ -9,7 +9,7 @@ most_claimers = 64
 
 -- the parts of all seats: one more than the most claimers
 abbrev pub all_parts : ℕ
-all_parts = 65
+all_parts = most_claimers + 1
 
 -- no claimer is lent
 abbrev pub IsAllBack : RoundView → Type 0

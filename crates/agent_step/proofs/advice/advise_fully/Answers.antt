@@ -9,6 +9,7 @@ use Rattle.hard_plane.proofs.ScenarioRings.{length-ring_planes_le}
 use Rattle.crowd_data.specs.declared.agent.Agent.{Agent}
 use Rattle.crowd_data.specs.Advice.{agent_at, hard_planes, soft_planes, wall_planes}
 use Rattle.crowd_data.specs.Run.{crowd_of}
+use Rattle.planar_program.specs.declared.relief.TheConstants.{GREATEST_RELIEF}
 use Rattle.pair_plane.specs.Sized.{IsShareSized}
 use Rattle.planar_program.specs.Met.{IsMet}
 use Rattle.agent_step.specs.Among.{AdvisedAmong}
@@ -79,7 +80,7 @@ advise_among-requires-clause-enough c =
     let seen : crowd_of c.agents.result.now c.bodies.result.now ≡ crowd = (λ i. crowd_of (c.agents.ensures i) (c.bodies.ensures.value i)) in
     let is = listed scenario crowd _ who c.agent-agent.result c.args.near.now c.items.result.now c.fill.new.planes.items c.items-hard.result.now
     seen c.agent-agent.ensures.value c.requires.near (hard_from c.args.crowd.now.scenario c.walls.result.now.segments.items crowd who c.agent-agent.result c.polygon.result.now c.fill.new.planes.items c.polygon.ensures c.agent-agent.ensures.value c.fill.ensures.items) c.items-hard.ensures (c.items.ensures ∙ c.push_shares.ensures.items) in
-    λ met. subst IsMet (sym (relieved_are scenario crowd who (length c.items-hard.result.now) c.items.result.now is 262143))
+    λ met. subst IsMet (sym (relieved_are scenario crowd who (length c.items-hard.result.now) c.items.result.now is GREATEST_RELIEF))
     (enough_relief (hard_planes scenario (agent_at crowd who)) (soft_planes crowd who) _ scenario.ring (agent_at crowd who).speed
     (moves-at agents bodies c.bodies.ensures.present who c.requires.who).build.speed refl (soft_sized agents bodies c.bodies.ensures.present who c.requires.who)
     (subst IsMet (hard_are scenario crowd who (length c.items-hard.result.now) c.items.result.now is) met))

@@ -1,10 +1,11 @@
 use Rattle.std.proofs.Common.{◌∙◌, ◌≤◌, ◌*ℤ◌, ℕ, ℤ, pos, ap, arith, sym, subst, FitsSigned, to_z, of_z, to_z-of_z, unsigned_abs, w64}
 use Rattle.std.proofs.lemmas.Int.{fits_signed_from_abs}
 use Rattle.crowd_data.specs.Headings.{cut}
+use Rattle.crowd_data.specs.declared.limits.TheConstants.{GREATEST_SPEED}
 use Rattle.controller_turns.proofs.Lengths.{scaled_is, scaled_small}
 use Rattle.controller_turns.proofs.headings.scaled.Goals as goal
 
-fits : (coordinate : ℤ) (pace length : ℕ) → unsigned_abs coordinate ≤ length → pace ≤ 16384 → FitsSigned w64 (cut (coordinate *ℤ pos pace) (pos length))
+fits : (coordinate : ℤ) (pace length : ℕ) → unsigned_abs coordinate ≤ length → pace ≤ GREATEST_SPEED → FitsSigned w64 (cut (coordinate *ℤ pos pace) (pos length))
 fits coordinate pace length h k = let small = scaled_small coordinate pace length h in fits_signed_from_abs w64 (cut (coordinate *ℤ pos pace) (pos length)) (omega (arith, small, k))
 
 pub overflow_cast-result : goal.overflow_cast-result

@@ -5,12 +5,13 @@ use Rattle.fixed_vec.specs.Vector.{zero_vector}
 use Rattle.crowd_data.specs.declared.post.Goal.{Goal}
 use Rattle.crowd_data.proofs.GoalTables.{goal_once, goal_twice, table_more, table_none}
 use Rattle.crowd_data.proofs.validity.have_one_goal.Goals as goal
+use Rattle.crowd_data.specs.declared.limits.TheConstants.{MOST_AGENTS}
 
 abbrev no_goal : Goal
 no_goal = record { controller = 0; agent = 0; at = zero_vector; pace = 0 }
 
 pub loop-goal-init : goal.loop-goal-init
-loop-goal-init c = record { size = omega arith; table = table_none 10000; one_goal = λ i j d before within same. absurd (omega (arith, within)) }
+loop-goal-init c = record { size = omega arith; table = table_none MOST_AGENTS; one_goal = λ i j d before within same. absurd (omega (arith, within)) }
 
 pub returns-then-table-agent : goal.returns-then-table-agent
 returns-then-table-agent c = (

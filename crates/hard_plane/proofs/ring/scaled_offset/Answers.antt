@@ -1,5 +1,6 @@
 use Rattle.std.proofs.Common.{◌^◌, ◌≤◌, List, [], ◌∷◌, ℕ, arith, ℤ, pos, ◌*ℤ◌, w64}
 use Rattle.std.proofs.lemmas.Int.{ints}
+use Rattle.crowd_data.specs.declared.limits.TheConstants.{GREATEST_SPEED}
 use Rattle.exact_algebra.proofs.Machine.{Within, fits, bounded, computed, reads}
 use Rattle.fixed_vec.specs.declared.vector.V2.{V2}
 use Rattle.fixed_vec.specs.Vector.{dot, IsBelow}
@@ -11,7 +12,7 @@ inputs k n m = pos k ∷ n.x ∷ n.y ∷ m.x ∷ m.y ∷ []
 abbrev limits : List ℕ
 limits = 2 ^ 14 ∷ 2 ^ 12 ∷ 2 ^ 12 ∷ 2 ^ 12 ∷ 2 ^ 12 ∷ []
 
-within : (k : ℕ) (n m : V2) → k ≤ 16384 → IsBelow n (2 ^ 12) → IsBelow m (2 ^ 12) → Within (inputs k n m) limits
+within : (k : ℕ) (n m : V2) → k ≤ GREATEST_SPEED → IsBelow n (2 ^ 12) → IsBelow m (2 ^ 12) → Within (inputs k n m) limits
 within k n m h i j = (omega (arith, ints), (omega (arith, i.0), (omega (arith, i.1), (omega (arith, j.0), (omega (arith, j.1), tt)))))
 
 pub overflow_add-result : goal.overflow_add-result

@@ -9,6 +9,7 @@ use Rattle.published_frames.specs.Taken.{posts_of}
 use Rattle.outside_io.specs.Sinks.{sink_state}
 use Rattle.live_session.proofs.GoalCount.{goals_few}
 use Rattle.crowd_data.proofs.Controllers.{controllers_few}
+use Rattle.crowd_data.specs.declared.limits.TheConstants.{MOST_AGENTS}
 use Rattle.live_session.proofs.Written.{ended_here}
 use Rattle.live_session.proofs.run.run_desk.Goals as goal
 
@@ -22,9 +23,9 @@ pub overflow_mul-most-2 : goal.overflow_mul-most-2
 overflow_mul-most-2 g c =
     let few = goals_few c.scenario-scenario.result.now c.goals.ensures.valid in
     let count = ap (λ l. length l) c.goals.ensures.value in
-    let goals : length c.goals.result.now ≤ 10000 = omega (arith, few, count, c.goals.ensures.valid.agent_count) in
+    let goals : length c.goals.result.now ≤ MOST_AGENTS = omega (arith, few, count, c.goals.ensures.valid.agent_count) in
     let steps : 2 * c.steps.result + 3 ≤ 200003 = omega (arith, c.steps.ensures.value, c.goals.ensures.valid.steps) in
-    let most : (2 * c.steps.result + 3) * length c.goals.result.now ≤ 200003 * 10000 = mul-le-mul steps goals in
+    let most : (2 * c.steps.result + 3) * length c.goals.result.now ≤ 200003 * MOST_AGENTS = mul-le-mul steps goals in
     omega (arith, most)
 
 pub open-requires : goal.open-requires

@@ -1,6 +1,7 @@
 use Rattle.std.specs.Int.{w128}
 use Rattle.std.proofs.Common.{◌≡◌, pos, ◌<ℤ◌, FitsSigned, to_z-of_z, arith, rules}
 use Rattle.std.proofs.lemmas.Int.{ints}
+use Rattle.planar_program.specs.declared.relief.TheConstants.{GREATEST_RELIEF}
 use Rattle.exact_algebra.specs.Numbers.{ceil}
 use Rattle.planar_program.proofs.Certificates.{too_small_below}
 use Rattle.planar_program.proofs.certificate.least_enough.Goals as goal
@@ -12,6 +13,6 @@ returns-then-least c =
     let g : FitsSigned w128 give = search rules in
     let e : c.div_up-least.result ≡ ceil lack give = simp to_z-of_z at c.div_up-least.ensures in
     let positive : pos 0 <ℤ give = search rules in
-    let most : pos 262143 <ℤ c.div_up-least.result = search rules in
-    let above : pos 262143 <ℤ ceil lack give = rw e at most in
+    let most : pos GREATEST_RELIEF <ℤ c.div_up-least.result = search rules in
+    let above : pos GREATEST_RELIEF <ℤ ceil lack give = rw e at most in
     λ d l. too_small_below lack give d positive (omega (arith, ints))

@@ -1,5 +1,6 @@
 use Rattle.std.proofs.Common.{Result, Ok, Err, IsErr, IfErr, ◌≡◌, ◌∙◌, ◌+◌, length, [], ◌∷◌, refl, subst, arith}
 use Rattle.std.proofs.lemmas.Bool.{false≢true}
+use Rattle.planar_line.specs.Border.{greatest_preference}
 use Rattle.exact_algebra.proofs.Machine.{computed, reads}
 use Rattle.fixed_vec.specs.Meeting.{IsEmpty, Meeting, relieved_after}
 use Rattle.fixed_vec.specs.Point.{Rational, whole}
@@ -23,8 +24,8 @@ loop-place-init c =
     let long = length-relieved_after c.args.hard c.args.relief c.args.planes.now c.requires.hard in
     let pref = c.args.pref in
     let start : c.of-best.result ≡ whole pref = c.of-best.ensures ∙ point_by _ _ _ (whole pref) c.of-start.result c.of-start.ensures
-    (computed (pref.x ∷ pref.y ∷ []) (16384 ∷ 16384 ∷ []) (c.requires.pref.across, (c.requires.pref.along, tt)) (search reads depth 40 fits 20000) tt)
-    (computed (pref.x ∷ pref.y ∷ []) (16384 ∷ 16384 ∷ []) (c.requires.pref.across, (c.requires.pref.along, tt)) (search reads depth 40 fits 20000) tt)
+    (computed (pref.x ∷ pref.y ∷ []) (greatest_preference ∷ greatest_preference ∷ []) (c.requires.pref.across, (c.requires.pref.along, tt)) (search reads depth 40 fits 20000) tt)
+    (computed (pref.x ∷ pref.y ∷ []) (greatest_preference ∷ greatest_preference ∷ []) (c.requires.pref.across, (c.requires.pref.along, tt)) (search reads depth 40 fits 20000) tt)
     refl in
     record { best = best-start list c.args.hard c.farthest_out-head.result pref c.of-best.result (omega arith) (omega arith) start }
 
