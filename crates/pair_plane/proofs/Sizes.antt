@@ -1,5 +1,5 @@
 -- How large the numbers of a pair are.
-use Rattle.std.proofs.Common.{ℕ, ◌^◌, [], ◌∷◌, arith, pos}
+use Rattle.std.proofs.Common.{ℕ, ◌*◌, ◌^◌, [], ◌∷◌, arith, pos}
 use Rattle.std.proofs.lemmas.Int.{ints}
 use Rattle.exact_algebra.proofs.Machine.{bounded, reads}
 use Rattle.fixed_vec.specs.Vector.{IsBelow}

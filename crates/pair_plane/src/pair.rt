@@ -41,7 +41,7 @@ impl Pair {
     /// How the low disc moves, seen from the high one.
     pub fn relative_velocity(&self) -> V2
         ensures value { result ≡ relative_velocity_of self.now.low self.now.high }
-        ensures small { IsWithin result 32768 }
+        ensures small { IsWithin result (2 * GREATEST_SPEED) }
     {
         V2 {
             x: self.low.vel.x - self.high.vel.x,
