@@ -14,6 +14,7 @@ mod transcript;
 mod transcript_read;
 
 pub use cause::{TranscriptCause, TranscriptFault};
+pub use limits::{GREATEST_PLACE, GREATEST_RELIEF, GREATEST_SEQ};
 pub use line::Line;
 pub use transcript::{write_end, write_frame, write_scenario};
 pub use transcript_read::{Transcript, read_transcript};

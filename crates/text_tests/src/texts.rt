@@ -3,7 +3,7 @@ use crowd_data::Scenario;
 use fixed_vec::List;
 use frame_text::write_scenario;
 use outside_io::MemSink;
-use scenario_read::{ScenarioFault, read_scenario};
+use scenario_read::{Cause, Part, ScenarioFault, read_part, read_scenario};
 use std::alloc::Global;
 use std::test::Fail;
 
@@ -23,4 +23,20 @@ pub(crate) fn written(alloc: Global, scenario: &Scenario) -> Result<MemSink, Fai
 
 pub(crate) fn is_same(a: &[u8], b: &[u8]) -> bool {
     a == b
+}
+
+pub(crate) fn part_of(alloc: Global, input: &[u8], kind: &str) -> Result<Part, ScenarioFault> {
+    if input.len() < 1 << 32 {
+        read_part(alloc, input, kind)
+    } else {
+        Err(ScenarioFault::NoMemory)
+    }
+}
+
+pub(crate) fn fault_of(alloc: Global, input: &[u8]) -> Option<ScenarioFault> {
+    read_some(alloc, input).err()
+}
+
+pub(crate) fn at(index: u32, cause: Cause) -> Option<ScenarioFault> {
+    Some(ScenarioFault::At { index, cause })
 }

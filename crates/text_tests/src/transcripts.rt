@@ -1,6 +1,4 @@
 // Transcripts that are read, and the first causes of some that are none.
-ghost use Rattle.std.specs.Prelude.{◌<◌, ◌^◌, length};
-
 use frame_text::{Transcript, TranscriptCause, TranscriptFault, read_transcript};
 use scenario_read::Cause;
 use std::alloc::Global;
@@ -10,17 +8,17 @@ const ONE_STEP: &[u8] =
     b"crowd,1\nsteps,1\nagent,0,0,0,0,300,0,500,400,15000,0,10,4\nframe,0\nbody,0,0,0,0,0,300,0,start,0\nframe,1\nbody,0,300,0,300,0,300,0,feasible,0\nend,1\n";
 
 // The transcript of a text. Its callers learn nothing of it, so that no proof computes on the text.
-fn read(alloc: Global, bytes: &[u8]) -> Result<Transcript, TranscriptFault>
-    requires { length bytes.now < 2 ^ 32 }
-{
-    read_transcript(alloc, bytes)
+fn read(alloc: Global, bytes: &[u8]) -> Result<Transcript, TranscriptFault> {
+    if bytes.len() < 1 << 32 {
+        read_transcript(alloc, bytes)
+    } else {
+        Err(TranscriptFault::NoMemory)
+    }
 }
 
 // The fault of a text, if it has one.
-fn fault_of(alloc: Global, bytes: &[u8]) -> Option<TranscriptFault>
-    requires { length bytes.now < 2 ^ 32 }
-{
-    read_transcript(alloc, bytes).err()
+fn fault_of(alloc: Global, bytes: &[u8]) -> Option<TranscriptFault> {
+    read(alloc, bytes).err()
 }
 
 fn at(index: u32, cause: TranscriptCause) -> Option<TranscriptFault> {
