@@ -1,20 +1,18 @@
 // Agents alone and among others, with expected advice by hand.
-ghost use Rattle.std.specs.Prelude.{◌≡◌, ◌<◌, ◌≤◌, ◌^◌, [], All, IfOk, length, map};
+ghost use Rattle.std.specs.Prelude.{◌≡◌, ◌<◌, ◌^◌, All, IfOk, length, map};
 ghost use Rattle.agent_kdtree.specs.Placed.{IsPlaced};
 ghost use Rattle.agent_kdtree.specs.Stands.{StandsFor};
 ghost use Rattle.crowd_data.specs.Advice.{place_of};
-ghost use Rattle.crowd_data.specs.Limits.{IsAgent, IsPosition, IsRing, IsSegment, IsVelocity, IsWeight};
-ghost use Rattle.crowd_data.specs.Scenario.{IsValid};
+ghost use Rattle.crowd_data.specs.Limits.{IsVelocity};
 
 use agent_kdtree::Tree;
 use agent_step::{Advice, FrozenCrowd, Polygons, Scratch, WallBlocks, advise};
 use crowd_data::{
-    Agent, FINE_RING, LATEST_VERSION, Mark, PLAIN_RING, Place, Scenario, Segment, clear,
-    first_frame,
+    Agent, FINE_RING, LATEST_VERSION, Mark, PLAIN_RING, Place, Scenario, Segment, first_frame,
+    valid,
 };
 use fixed_vec::{List, NoMemory, V2, dot};
 use std::alloc::Global;
-use std::process::Abort;
 use std::test::Fail;
 
 const ORIGIN: V2 = V2 { x: 0, y: 0 };
@@ -73,97 +71,79 @@ fn first_advice(alloc: Global, scenario: &Scenario, who: usize) -> Result<Advice
     Ok(advise(&crowd, who, &mut scratch))
 }
 
-fn scenario_of(
+// The advice of one of these agents among segments, their polygons being made by this ring. What the agents and
+// segments are is tested as it runs, so that no proof computes on them.
+fn advice_in(
     alloc: Global,
     ring: u32,
-    agents: List<Agent>,
-    segments: List<Segment>,
-) -> Result<Scenario, NoMemory>
-    requires { IsValid (record { version = 2; ring = ring; steps = 0; agents = agents.items; segments = segments.items; posts = []; goals = [] }) }
-    ensures { IfOk result (λ s. s ≡ record { version = 2; ring = ring; steps = 0; agents = agents.items; segments = segments.items; posts = []; goals = [] }) }
-{
-    let posts = List::with_room(alloc, 0)?;
-    let goals = List::with_room(alloc, 0)?;
-    Ok(Scenario::of(LATEST_VERSION, ring, 0, agents, segments, posts, goals))
-}
-
-// The advice of an agent that is alone among segments, its polygon being made by this ring.
-fn alone(
-    rt: &impl Abort,
-    alloc: Global,
-    ring: u32,
-    agent: Agent,
+    crowd: &[Agent],
     segments: &[Segment],
+    who: usize,
 ) -> Result<Advice, Fail>
-    requires ring { IsRing ring }
-    requires agent { IsAgent agent }
-    requires segments { All IsSegment segments.now }
-    requires count { length segments.now ≤ 2000 }
-    ensures slow { IfOk result (λ a. IsVelocity a.vel) }
-{
-    let mut walls = List::with_room(alloc, segments.len())?;
-    for segment in segments {
-        assert!(rt; clear(agent.pos, agent.radius, segment));
-        walls.push(*segment);
-    }
-    let mut agents = List::with_room(alloc, 1)?;
-    agents.push(agent);
-    first_advice(alloc, &scenario_of(alloc, ring, agents, walls)?, 0)
-}
-
-// The advice of a walker that looks for no neighbours, with another walker at a place.
-fn beside(alloc: Global, pos: V2) -> Result<Advice, Fail>
-    requires { IsPosition pos }
-{
-    let mut agents = List::with_room(alloc, 2)?;
-    agents.push(Agent { most: 0, ..WALKER });
-    agents.push(Agent { pos, ..WALKER });
-    let walls = List::with_room(alloc, 0)?;
-    first_advice(alloc, &scenario_of(alloc, PLAIN_RING, agents, walls)?, 0)
-}
-
-// The advice of one of these agents, which have no walls.
-fn among(alloc: Global, crowd: &[Agent], who: usize) -> Result<Advice, Fail>
-    requires crowd { All IsAgent crowd.now }
-    requires count { length crowd.now ≤ 10000 }
-    requires who { who < length crowd.now }
     ensures slow { IfOk result (λ a. IsVelocity a.vel) }
 {
     let mut agents = List::with_room(alloc, crowd.len())?;
     for agent in crowd {
         agents.push(*agent);
     }
-    let walls = List::with_room(alloc, 0)?;
-    first_advice(alloc, &scenario_of(alloc, PLAIN_RING, agents, walls)?, who)
+    let mut walls = List::with_room(alloc, segments.len())?;
+    for segment in segments {
+        walls.push(*segment);
+    }
+    let posts = List::with_room(alloc, 0)?;
+    let goals = List::with_room(alloc, 0)?;
+    if who < crowd.len()
+        && valid(
+            LATEST_VERSION,
+            ring,
+            0,
+            agents.items(),
+            walls.items(),
+            posts.items(),
+            goals.items(),
+        )
+    {
+        let scenario = Scenario::of(LATEST_VERSION, ring, 0, agents, walls, posts, goals);
+        first_advice(alloc, &scenario, who)
+    } else {
+        Ok(Err::<Advice, &str>("a test asks for what is no crowd")?)
+    }
+}
+
+// The advice of an agent that is alone among segments.
+fn alone(alloc: Global, ring: u32, agent: Agent, segments: &[Segment]) -> Result<Advice, Fail>
+    ensures slow { IfOk result (λ a. IsVelocity a.vel) }
+{
+    advice_in(alloc, ring, &[agent], segments, 0)
+}
+
+// The advice of one of these agents, which have no walls.
+fn among(alloc: Global, crowd: &[Agent], who: usize) -> Result<Advice, Fail> {
+    advice_in(alloc, PLAIN_RING, crowd, &[], who)
+}
+
+// The advice of a walker that looks for no neighbours, with another walker at a place.
+fn beside(alloc: Global, pos: V2) -> Result<Advice, Fail> {
+    let first = Agent { most: 0, ..WALKER };
+    let second = Agent { pos, ..WALKER };
+    among(alloc, &[first, second], 0)
 }
 
 // The advice of each of two agents.
-fn two(alloc: Global, a: Agent, b: Agent) -> Result<[Advice; 2], Fail>
-    requires a { IsAgent a }
-    requires b { IsAgent b }
-{
+fn two(alloc: Global, a: Agent, b: Agent) -> Result<[Advice; 2], Fail> {
     let crowd = [a, b];
     Ok([among(alloc, &crowd, 0)?, among(alloc, &crowd, 1)?])
 }
 
 // The advice of each of three agents.
-fn three(alloc: Global, a: Agent, b: Agent, c: Agent) -> Result<[Advice; 3], Fail>
-    requires a { IsAgent a }
-    requires b { IsAgent b }
-    requires c { IsAgent c }
-{
+fn three(alloc: Global, a: Agent, b: Agent, c: Agent) -> Result<[Advice; 3], Fail> {
     let crowd = [a, b, c];
     let first = among(alloc, &crowd, 0)?;
     let second = among(alloc, &crowd, 1)?;
     Ok([first, second, among(alloc, &crowd, 2)?])
 }
 
-fn walker(pos: V2, vel: V2, pref: V2) -> Agent
-    requires pos { IsPosition pos }
-    requires vel { IsVelocity vel }
-    requires pref { IsVelocity pref }
-    ensures { IsAgent result }
-{
+fn walker(pos: V2, vel: V2, pref: V2) -> Agent {
     Agent {
         pos,
         vel,
@@ -172,26 +152,15 @@ fn walker(pos: V2, vel: V2, pref: V2) -> Agent
     }
 }
 
-fn with_speed(agent: Agent, speed: u32) -> Agent
-    requires agent { IsAgent agent }
-    requires speed { speed ≤ 16384 }
-    ensures { IsAgent result }
-{
+fn with_speed(agent: Agent, speed: u32) -> Agent {
     Agent { speed, ..agent }
 }
 
-fn with_weight(agent: Agent, weight: u32) -> Agent
-    requires agent { IsAgent agent }
-    requires weight { IsWeight weight }
-    ensures { IsAgent result }
-{
+fn with_weight(agent: Agent, weight: u32) -> Agent {
     Agent { weight, ..agent }
 }
 
-fn considering_one(agent: Agent) -> Agent
-    requires { IsAgent agent }
-    ensures { IsAgent result }
-{
+fn considering_one(agent: Agent) -> Agent {
     Agent { most: 1, ..agent }
 }
 
@@ -221,7 +190,7 @@ fn crowded(vel: V2) -> Advice {
 
 #[test]
 fn walks_alone(rt: HostRuntime) -> Result<(), Fail> {
-    let advice = alone(&rt, rt.alloc(), PLAIN_RING, WALKER, &[])?;
+    let advice = alone(rt.alloc(), PLAIN_RING, WALKER, &[])?;
     assert_eq!(rt; advice, feasible(EAST));
     Ok(())
 }
@@ -233,7 +202,7 @@ fn stops_at_a_corner_of_its_polygon(rt: HostRuntime) -> Result<(), Fail> {
         speed: 66,
         ..WALKER
     };
-    let advice = alone(&rt, rt.alloc(), PLAIN_RING, slow, &[])?;
+    let advice = alone(rt.alloc(), PLAIN_RING, slow, &[])?;
     assert_eq!(rt; advice, feasible(V2 { x: 65, y: 0 }));
     Ok(())
 }
@@ -246,9 +215,9 @@ fn stops_at_a_corner_of_either_polygon(rt: HostRuntime) -> Result<(), Fail> {
         speed: 326,
         ..WALKER
     };
-    let fine = alone(&rt, rt.alloc(), FINE_RING, eager, &[])?;
+    let fine = alone(rt.alloc(), FINE_RING, eager, &[])?;
     assert_eq!(rt; fine, feasible(V2 { x: 323, y: 36 }));
-    let plain = alone(&rt, rt.alloc(), PLAIN_RING, eager, &[])?;
+    let plain = alone(rt.alloc(), PLAIN_RING, eager, &[])?;
     assert_eq!(rt; plain, feasible(V2 { x: 325, y: 0 }));
     Ok(())
 }
@@ -263,7 +232,7 @@ fn considers_a_wall_by_the_fine_ring(rt: HostRuntime) -> Result<(), Fail> {
         a: V2 { x: -2000, y: 800 },
         b: V2 { x: 2000, y: 800 },
     };
-    let advice = alone(&rt, rt.alloc(), FINE_RING, agent, &[wall])?;
+    let advice = alone(rt.alloc(), FINE_RING, agent, &[wall])?;
     assert_eq!(rt; advice, feasible(V2 { x: 0, y: 75 }));
     Ok(())
 }
@@ -282,7 +251,7 @@ fn greatest_of_all_limits(rt: HostRuntime) -> Result<(), Fail> {
         wall_horizon: 4096,
         weight: 16,
     };
-    let advice = alone(&rt, rt.alloc(), PLAIN_RING, largest, &[])?;
+    let advice = alone(rt.alloc(), PLAIN_RING, largest, &[])?;
     assert_eq!(rt; advice, feasible(V2 { x: 16383, y: 0 }));
     Ok(())
 }
@@ -297,7 +266,7 @@ fn considers_a_wall_that_it_stands_beside(rt: HostRuntime) -> Result<(), Fail> {
         a: V2 { x: -2000, y: 800 },
         b: V2 { x: 2000, y: 800 },
     };
-    let advice = alone(&rt, rt.alloc(), PLAIN_RING, agent, &[wall])?;
+    let advice = alone(rt.alloc(), PLAIN_RING, agent, &[wall])?;
     assert_eq!(rt; advice, feasible(V2 { x: 0, y: 75 }));
     Ok(())
 }
@@ -308,7 +277,7 @@ fn considers_the_nearest_end_of_a_wall(rt: HostRuntime) -> Result<(), Fail> {
         a: V2 { x: 1000, y: 0 },
         b: V2 { x: 2000, y: 0 },
     };
-    let advice = alone(&rt, rt.alloc(), PLAIN_RING, WALKER, &[wall])?;
+    let advice = alone(rt.alloc(), PLAIN_RING, WALKER, &[wall])?;
     assert_eq!(rt; advice, feasible(V2 { x: 125, y: 0 }));
     Ok(())
 }
@@ -327,7 +296,7 @@ fn stands_still_without_room(rt: HostRuntime) -> Result<(), Fail> {
         a: V2 { x: -2000, y: -500 },
         b: V2 { x: 2000, y: -500 },
     };
-    let advice = alone(&rt, rt.alloc(), PLAIN_RING, agent, &[above, below])?;
+    let advice = alone(rt.alloc(), PLAIN_RING, agent, &[above, below])?;
     assert_eq!(rt; advice.vel, ORIGIN);
     assert_eq!(rt; advice.mark, Mark::Stopped);
     assert_eq!(rt; advice.relief, 0);
@@ -374,7 +343,7 @@ fn keeps_within_every_speed(rt: HostRuntime) -> Result<(), Fail> {
                 speed,
                 ..WALKER
             };
-            let advice = alone(&rt, rt.alloc(), PLAIN_RING, agent, &[])?;
+            let advice = alone(rt.alloc(), PLAIN_RING, agent, &[])?;
             let square = speed as i128 * speed as i128;
             assert!(rt; dot(advice.vel, advice.vel) <= square, "at {speed}");
         }

@@ -62,7 +62,7 @@ fn marks(rt: HostRuntime) -> Result<(), Fail> {
 #[test]
 fn records_of_a_scenario(rt: HostRuntime) -> Result<(), Fail> {
     let text =
-        b"crowd,1\nsteps,5\nagent,-1,2,3,-4,5,6,7,8,9,10,11,12\nsegment,-10,20,30,-40\npost,5,0,-1,2\ngoal,7,0,3,-4,8\n".as_slice();
+        b"crowd,1\nsteps,5\nagent,-1,2,3,-4,5,6,7,8,9,10,11,12\nsegment,-100,200,300,-400\npost,5,0,-1,2\ngoal,7,0,3,-4,8\n".as_slice();
     let scenario = read_some(rt.alloc(), text)?;
     assert_eq!(rt;
         scenario.agents(),
@@ -83,8 +83,8 @@ fn records_of_a_scenario(rt: HostRuntime) -> Result<(), Fail> {
     assert_eq!(rt;
         scenario.segments(),
         [Segment {
-            a: V2 { x: -10, y: 20 },
-            b: V2 { x: 30, y: -40 }
+            a: V2 { x: -100, y: 200 },
+            b: V2 { x: 300, y: -400 }
         }]
         .as_slice()
     );

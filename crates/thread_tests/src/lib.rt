@@ -12,4 +12,6 @@ mod posts;
 #[cfg(test)]
 mod stepping;
 #[cfg(test)]
+mod texts;
+#[cfg(test)]
 mod turns;

@@ -1,10 +1,10 @@
 // Live runs over sinks in memory.
+use crate::texts::scenario_of;
 use crowd_data::Moves;
 use fixed_vec::{List, NoMemory};
 use frame_text::read_transcript;
 use live_session::{LiveFault, live, live_places};
 use outside_io::{Gate, MemSink, OpenGate};
-use scenario_read::read_scenario;
 use std::alloc::Global;
 use std::sync::Wait;
 use std::sync::atomic::{AtomicBool, AtomicU64, Ordering};
@@ -46,10 +46,10 @@ fn run<R: Threads + Wait + Sync, G: Gate + Sync>(
     room: usize,
     gate: &G,
 ) -> Result<Ended, Fail> {
-    if input.len() > 100_000 || places > ALL_PLACES {
+    if places > ALL_PLACES {
         Err::<(), &str>("a test asks for too much")?;
     }
-    let scenario = read_scenario(alloc, input)?;
+    let scenario = scenario_of(alloc, input)?;
     let mut out = sink_of(alloc, room)?;
     let fault = match live_places(rt, alloc, scenario, 1, places, &mut out, gate) {
         Ok(()) => None,
@@ -60,7 +60,7 @@ fn run<R: Threads + Wait + Sync, G: Gate + Sync>(
 
 #[test]
 fn one_controller_takes_its_last_turn(rt: HostRuntime) -> Result<(), Fail> {
-    let scenario = read_scenario(rt.alloc(), ONE_GOAL)?;
+    let scenario = scenario_of(rt.alloc(), ONE_GOAL)?;
     let mut out = sink_of(rt.alloc(), ROOM)?;
     let done = live(&rt, rt.alloc(), scenario, 1, &mut out, &OpenGate);
     assert_eq!(rt; done, Ok(()));

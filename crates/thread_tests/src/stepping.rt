@@ -1,8 +1,9 @@
 // Runs of a few agents, step by step, and steps that workers share.
-ghost use Rattle.std.specs.Prelude.{◌≡◌, ◌<◌, ◌≤◌, ◌+◌, All, IfOk, length};
+ghost use Rattle.std.specs.Prelude.{◌≡◌, ◌<◌, ◌≤◌, All, IfOk, length};
 ghost use Rattle.crowd_data.specs.Limits.{IsAgent};
 
-use crowd_data::{Agent, FIRST_VERSION, Frame, Mark, PLAIN_RING, Scenario};
+use crate::texts::scenario_of;
+use crowd_data::{Agent, Frame, Mark, Scenario};
 use fixed_vec::{List, NoMemory, V2};
 use frame_step::Stepper;
 use outside_io::Gate;
@@ -30,47 +31,34 @@ const WALKER: Agent = Agent {
     weight: 1,
 };
 
-// Two agents for two steps: the second one is just near the first one, which walks away from it. A caller learns
-// the number of the frame and that of the steps.
-fn opened(alloc: Global) -> Result<Stepper, NoMemory>
-    ensures number { IfOk result (λ stepper. stepper.frame.number ≡ 0) }
-    ensures steps { IfOk result (λ stepper. stepper.scenario.steps ≡ 2) }
-{
-    let mut agents = List::with_room(alloc, 2)?;
-    agents.push(WALKER);
-    agents.push(Agent {
-        pos: V2 { x: 1800, y: 0 },
-        pref: ORIGIN,
-        ..WALKER
-    });
-    let scenario = Scenario::of(
-        FIRST_VERSION,
-        PLAIN_RING,
-        2,
-        agents,
-        List::with_room(alloc, 0)?,
-        List::with_room(alloc, 0)?,
-        List::with_room(alloc, 0)?,
-    );
-    Stepper::open(alloc, scenario, 1)
+// Two agents for two steps: the second one is just near the first one, which walks away from it.
+const TWO_AGENTS: &[u8] =
+    b"crowd,1\nsteps,2\nagent,0,0,0,0,-300,0,500,400,15000,0,10,4\nagent,1800,0,0,0,0,0,500,400,15000,0,10,4\n";
+
+fn opened(alloc: Global) -> Result<Stepper, Fail> {
+    Ok(Stepper::open(alloc, scenario_of(alloc, TWO_AGENTS)?, 1)?)
 }
 
-// A step without posts, of which a caller learns the number of its frame.
-fn make_step<R: Threads + Sync>(rt: &R, stepper: &mut Stepper)
-    requires below { stepper.old.frame.number < stepper.old.scenario.steps }
-    ensures scenario { stepper.new.scenario ≡ stepper.old.scenario }
-    ensures number { stepper.new.frame.number ≡ stepper.old.frame.number + 1 }
-{
+// Makes a step without posts, unless none is left.
+fn make_step<R: Threads + Sync>(rt: &R, stepper: &mut Stepper) -> bool {
+    if stepper.frame().number >= stepper.scenario().steps() {
+        return false;
+    }
     stepper.step(rt, &[]);
+    true
 }
 
 // The same, with a gate.
-fn make_gated_step<R: Threads + Sync, G: Gate + Sync>(rt: &R, stepper: &mut Stepper, gate: &G)
-    requires below { stepper.old.frame.number < stepper.old.scenario.steps }
-    ensures scenario { stepper.new.scenario ≡ stepper.old.scenario }
-    ensures number { stepper.new.frame.number ≡ stepper.old.frame.number + 1 }
-{
+fn make_gated_step<R: Threads + Sync, G: Gate + Sync>(
+    rt: &R,
+    stepper: &mut Stepper,
+    gate: &G,
+) -> bool {
+    if stepper.frame().number >= stepper.scenario().steps() {
+        return false;
+    }
     stepper.step_gated(rt, &[], gate);
+    true
 }
 
 // Whether two bodies stand at these places, both with this mark.
@@ -87,9 +75,9 @@ fn stand_at(frame: &Frame, first: V2, second: V2, mark: Mark) -> bool {
 fn each_step_is_made_from_one_frame(rt: HostRuntime) -> Result<(), Fail> {
     let second = V2 { x: 1800, y: 0 };
     let mut stepper = opened(rt.alloc())?;
-    make_step(&rt, &mut stepper);
+    assert!(rt; make_step(&rt, &mut stepper));
     assert!(rt; stand_at(stepper.frame(), V2 { x: -300, y: 0 }, second, Mark::Crowded));
-    make_step(&rt, &mut stepper);
+    assert!(rt; make_step(&rt, &mut stepper));
     assert!(rt;
         stand_at(
             stepper.frame(),
@@ -137,8 +125,6 @@ fn opened_row(alloc: Global, count: u32, workers: u32) -> Result<Stepper, NoMemo
     requires count { count ≤ 1000 }
     requires some_workers { 1 ≤ workers }
     requires workers { workers ≤ 64 }
-    ensures number { IfOk result (λ stepper. stepper.frame.number ≡ 0) }
-    ensures steps { IfOk result (λ stepper. stepper.scenario.steps ≡ 2) }
 {
     let scenario = Scenario::of(
         2,
@@ -165,12 +151,12 @@ fn share_well<R: Threads + Sync>(
 {
     let mut alone = opened_row(alloc, count, 1)?;
     let mut shared = opened_row(alloc, count, workers)?;
-    make_step(rt, &mut alone);
-    make_step(rt, &mut alone);
-    make_step(rt, &mut shared);
-    make_step(rt, &mut shared);
+    let made = make_step(rt, &mut alone)
+        && make_step(rt, &mut alone)
+        && make_step(rt, &mut shared)
+        && make_step(rt, &mut shared);
     let bodies = shared.frame().bodies.items();
-    Ok(bodies.len() == count as usize && bodies == alone.frame().bodies.items())
+    Ok(made && bodies.len() == count as usize && bodies == alone.frame().bodies.items())
 }
 
 #[test]
@@ -219,7 +205,7 @@ fn workers_run_beside_each_other(rt: HostRuntime) -> Result<(), Fail> {
         others: AtomicU64::new(0),
         seen: AtomicU64::new(0),
     };
-    make_gated_step(&rt, &mut stepper, &gate);
+    assert!(rt; make_gated_step(&rt, &mut stepper, &gate));
     assert_eq!(rt; gate.seen.load(Ordering::SeqCst), 4);
     Ok(())
 }
@@ -244,7 +230,7 @@ fn one_worker_passes_the_gate_before_each_piece(rt: HostRuntime) -> Result<(), F
     let gate = InOrder {
         next: AtomicU64::new(0),
     };
-    make_gated_step(&rt, &mut stepper, &gate);
+    assert!(rt; make_gated_step(&rt, &mut stepper, &gate));
     assert_eq!(rt; gate.next.load(Ordering::SeqCst), 3);
     Ok(())
 }
