@@ -84,15 +84,17 @@ fn advice_in(
 {
     let mut agents = List::with_room(alloc, crowd.len())?;
     for agent in crowd {
+        agents.reserve(1)?;
         agents.push(*agent);
     }
     let mut walls = List::with_room(alloc, segments.len())?;
     for segment in segments {
+        walls.reserve(1)?;
         walls.push(*segment);
     }
     let posts = List::with_room(alloc, 0)?;
     let goals = List::with_room(alloc, 0)?;
-    if who < crowd.len()
+    if who < agents.items().len()
         && valid(
             LATEST_VERSION,
             ring,
