@@ -4,6 +4,7 @@ use Rattle.std.proofs.lemmas.Int.{ints}
 use Rattle.exact_algebra.specs.Numbers.{floor}
 use Rattle.exact_algebra.proofs.Ring.{quotes, equal}
 use Rattle.exact_algebra.proofs.Rounding.{floor_le, floor_gt}
+use Rattle.fixed_vec.specs.Vector.{cross}
 use Rattle.fixed_vec.specs.HalfPlane.{Plane, determinant}
 use Rattle.fixed_vec.specs.Point.{Rational, rounded_of}
 
@@ -33,4 +34,9 @@ crossing a b = record {
 -- the determinant is how far, times q, the crossing of the first two lies outside the third
 pub outside_by_determinant : (a b d : Plane) → d.c *ℤ (crossing a b).q -ℤ (d.n.x *ℤ (crossing a b).x +ℤ d.n.y *ℤ (crossing a b).y) ≡ determinant a b d
 outside_by_determinant a b d =
+    equal (a.n.x ∷ a.n.y ∷ a.c ∷ b.n.x ∷ b.n.y ∷ b.c ∷ d.n.x ∷ d.n.y ∷ d.c ∷ []) (search quotes depth 40 fits 20000) tt
+
+-- the determinant by its third column: each offset times the outer product of the other normals
+pub determinant_by_offsets : (a b d : Plane) → a.c *ℤ cross b.n d.n -ℤ b.c *ℤ cross a.n d.n +ℤ d.c *ℤ cross a.n b.n ≡ determinant a b d
+determinant_by_offsets a b d =
     equal (a.n.x ∷ a.n.y ∷ a.c ∷ b.n.x ∷ b.n.y ∷ b.c ∷ d.n.x ∷ d.n.y ∷ d.c ∷ []) (search quotes depth 40 fits 20000) tt

@@ -1,10 +1,10 @@
 -- How large the numbers of a plane and a point are.
-use Rattle.std.proofs.Common.{ℕ, ◌*◌, ◌^◌, ◌<◌, ◌≤◌, List, [], ◌∷◌, arith, ℤ, pos, ◌<ℤ◌, unsigned_abs}
+use Rattle.std.proofs.Common.{ℕ, ◌*ℤ◌, ◌*◌, ◌^◌, ◌<◌, ◌≤◌, List, [], ◌∷◌, arith, ℤ, pos, ◌<ℤ◌, unsigned_abs}
 use Rattle.std.proofs.lemmas.Int.{ints}
-use Rattle.exact_algebra.proofs.Machine.{Within}
+use Rattle.exact_algebra.proofs.Machine.{Within, abs-product}
 use Rattle.exact_algebra.proofs.Sizes.{root_lt, square_abs}
 use Rattle.fixed_vec.specs.declared.vector.V2.{V2}
-use Rattle.fixed_vec.specs.Vector.{dot}
+use Rattle.fixed_vec.specs.Vector.{dot, cross}
 use Rattle.fixed_vec.specs.HalfPlane.{Plane, FitsPlane}
 use Rattle.fixed_vec.specs.Point.{Rational, FitsPoint}
 
@@ -28,13 +28,24 @@ within plane p h k =
     let s = normal_small plane.n h.normal in
     (s.0, (s.1, (omega (arith, h.offset), (omega (arith, k.across), (omega (arith, k.along), (omega (arith, ints), tt))))))
 
-abbrev pub rows : Plane → Plane → Plane → List ℤ
-rows a b d = a.n.x ∷ a.n.y ∷ a.c ∷ b.n.x ∷ b.n.y ∷ b.c ∷ d.n.x ∷ d.n.y ∷ d.c ∷ []
+abbrev pub factors : Plane → Plane → Plane → List ℤ
+factors a b d = a.c ∷ cross b.n d.n ∷ []
 
-abbrev pub row_limits : List ℕ
-row_limits = 2 ^ 32 ∷ 2 ^ 32 ∷ 2 ^ 53 ∷ 2 ^ 32 ∷ 2 ^ 32 ∷ 2 ^ 53 ∷ 2 ^ 32 ∷ 2 ^ 32 ∷ 2 ^ 53 ∷ []
+abbrev pub factor_limits : List ℕ
+factor_limits = 2 ^ 53 ∷ 2 ^ 65 ∷ []
 
-pub rows_within : (a b d : Plane) → FitsPlane a → FitsPlane b → FitsPlane d → Within (rows a b d) row_limits
-rows_within a b d h k l =
-    let p = normal_small a.n h.normal in let q = normal_small b.n k.normal in let r = normal_small d.n l.normal in
-    (p.0, (p.1, (omega (arith, h.offset), (q.0, (q.1, (omega (arith, k.offset), (r.0, (r.1, (omega (arith, l.offset), tt)))))))))
+pub cross_size : (b d : Plane) → FitsPlane b → FitsPlane d → unsigned_abs (cross b.n d.n) ≤ 2 ^ 65
+cross_size b d h k =
+    let p = normal_small b.n h.normal in let q = normal_small d.n k.normal in
+    let r = abs-product b.n.x d.n.y (2 ^ 32) (2 ^ 32) p.0 q.1 in
+    let s = abs-product b.n.y d.n.x (2 ^ 32) (2 ^ 32) p.1 q.0 in
+    omega (arith, ints)
+
+pub factors_within : (a b d : Plane) → FitsPlane a → FitsPlane b → FitsPlane d → Within (factors a b d) factor_limits
+factors_within a b d h k l = (omega (arith, h.offset), (cross_size b d k l, tt))
+
+pub part_size : (a b d : Plane) → FitsPlane a → FitsPlane b → FitsPlane d → unsigned_abs (a.c *ℤ cross b.n d.n) ≤ 2 ^ 118
+part_size a b d h k l = abs-product a.c (cross b.n d.n) (2 ^ 53) (2 ^ 65) (omega (arith, h.offset)) (cross_size b d k l)
+
+abbrev pub part_limits : List ℕ
+part_limits = 2 ^ 118 ∷ 2 ^ 118 ∷ 2 ^ 118 ∷ []

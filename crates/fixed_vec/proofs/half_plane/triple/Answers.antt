@@ -1,69 +1,18 @@
+use Rattle.std.proofs.Common.{◌≡◌, [], ◌∷◌, ◌∙◌, ◌+ℤ◌, ◌-ℤ◌}
 use Rattle.std.specs.Int.{w128}
 use Rattle.exact_algebra.proofs.Machine.{fits, computed, reads}
-use Rattle.fixed_vec.proofs.Sizes.{rows, row_limits, rows_within}
+use Rattle.fixed_vec.specs.HalfPlane.{determinant}
+use Rattle.fixed_vec.proofs.PlaneLaws.{determinant_by_offsets}
+use Rattle.fixed_vec.proofs.Sizes.{part_limits}
 use Rattle.fixed_vec.proofs.half_plane.triple.Goals as goal
-
-pub overflow_mul-first : goal.overflow_mul-first
-overflow_mul-first c =
-    simp (c.n-m.ensures.value, c.n-n.ensures.value, c.n-o.ensures.value, c.c-i.ensures.value, c.c-j.ensures.value, c.c-k.ensures.value)
-    (fits (rows c.args.a.now c.args.b.now c.args.c.now) row_limits w128 (rows_within _ _ _ c.c-i.ensures.fits c.c-j.ensures.fits c.c-k.ensures.fits) (search reads depth 40 fits 20000) tt)
-
-pub overflow_mul-first-2 : goal.overflow_mul-first-2
-overflow_mul-first-2 c =
-    simp (c.n-m.ensures.value, c.n-n.ensures.value, c.n-o.ensures.value, c.c-i.ensures.value, c.c-j.ensures.value, c.c-k.ensures.value)
-    (fits (rows c.args.a.now c.args.b.now c.args.c.now) row_limits w128 (rows_within _ _ _ c.c-i.ensures.fits c.c-j.ensures.fits c.c-k.ensures.fits) (search reads depth 40 fits 20000) tt)
-
-pub overflow_sub-first : goal.overflow_sub-first
-overflow_sub-first c =
-    simp (c.n-m.ensures.value, c.n-n.ensures.value, c.n-o.ensures.value, c.c-i.ensures.value, c.c-j.ensures.value, c.c-k.ensures.value)
-    (fits (rows c.args.a.now c.args.b.now c.args.c.now) row_limits w128 (rows_within _ _ _ c.c-i.ensures.fits c.c-j.ensures.fits c.c-k.ensures.fits) (search reads depth 40 fits 20000) tt)
-
-pub overflow_mul-first-3 : goal.overflow_mul-first-3
-overflow_mul-first-3 c =
-    simp (c.n-m.ensures.value, c.n-n.ensures.value, c.n-o.ensures.value, c.c-i.ensures.value, c.c-j.ensures.value, c.c-k.ensures.value)
-    (fits (rows c.args.a.now c.args.b.now c.args.c.now) row_limits w128 (rows_within _ _ _ c.c-i.ensures.fits c.c-j.ensures.fits c.c-k.ensures.fits) (search reads depth 40 fits 20000) tt)
-
-pub overflow_mul-second : goal.overflow_mul-second
-overflow_mul-second c =
-    simp (c.n-m.ensures.value, c.n-n.ensures.value, c.n-o.ensures.value, c.c-i.ensures.value, c.c-j.ensures.value, c.c-k.ensures.value)
-    (fits (rows c.args.a.now c.args.b.now c.args.c.now) row_limits w128 (rows_within _ _ _ c.c-i.ensures.fits c.c-j.ensures.fits c.c-k.ensures.fits) (search reads depth 40 fits 20000) tt)
-
-pub overflow_mul-second-2 : goal.overflow_mul-second-2
-overflow_mul-second-2 c =
-    simp (c.n-m.ensures.value, c.n-n.ensures.value, c.n-o.ensures.value, c.c-i.ensures.value, c.c-j.ensures.value, c.c-k.ensures.value)
-    (fits (rows c.args.a.now c.args.b.now c.args.c.now) row_limits w128 (rows_within _ _ _ c.c-i.ensures.fits c.c-j.ensures.fits c.c-k.ensures.fits) (search reads depth 40 fits 20000) tt)
-
-pub overflow_sub-second : goal.overflow_sub-second
-overflow_sub-second c =
-    simp (c.n-m.ensures.value, c.n-n.ensures.value, c.n-o.ensures.value, c.c-i.ensures.value, c.c-j.ensures.value, c.c-k.ensures.value)
-    (fits (rows c.args.a.now c.args.b.now c.args.c.now) row_limits w128 (rows_within _ _ _ c.c-i.ensures.fits c.c-j.ensures.fits c.c-k.ensures.fits) (search reads depth 40 fits 20000) tt)
-
-pub overflow_mul-second-3 : goal.overflow_mul-second-3
-overflow_mul-second-3 c =
-    simp (c.n-m.ensures.value, c.n-n.ensures.value, c.n-o.ensures.value, c.c-i.ensures.value, c.c-j.ensures.value, c.c-k.ensures.value)
-    (fits (rows c.args.a.now c.args.b.now c.args.c.now) row_limits w128 (rows_within _ _ _ c.c-i.ensures.fits c.c-j.ensures.fits c.c-k.ensures.fits) (search reads depth 40 fits 20000) tt)
-
-pub overflow_sub-third : goal.overflow_sub-third
-overflow_sub-third c =
-    simp (c.n-m.ensures.value, c.n-n.ensures.value, c.n-o.ensures.value, c.c-i.ensures.value, c.c-j.ensures.value, c.c-k.ensures.value)
-    (fits (rows c.args.a.now c.args.b.now c.args.c.now) row_limits w128 (rows_within _ _ _ c.c-i.ensures.fits c.c-j.ensures.fits c.c-k.ensures.fits) (search reads depth 40 fits 20000) tt)
-
-pub overflow_mul-third-3 : goal.overflow_mul-third-3
-overflow_mul-third-3 c =
-    simp (c.n-m.ensures.value, c.n-n.ensures.value, c.n-o.ensures.value, c.c-i.ensures.value, c.c-j.ensures.value, c.c-k.ensures.value)
-    (fits (rows c.args.a.now c.args.b.now c.args.c.now) row_limits w128 (rows_within _ _ _ c.c-i.ensures.fits c.c-j.ensures.fits c.c-k.ensures.fits) (search reads depth 40 fits 20000) tt)
-
-pub overflow_sub-result : goal.overflow_sub-result
-overflow_sub-result c =
-    simp (c.n-m.ensures.value, c.n-n.ensures.value, c.n-o.ensures.value, c.c-i.ensures.value, c.c-j.ensures.value, c.c-k.ensures.value)
-    (fits (rows c.args.a.now c.args.b.now c.args.c.now) row_limits w128 (rows_within _ _ _ c.c-i.ensures.fits c.c-j.ensures.fits c.c-k.ensures.fits) (search reads depth 40 fits 20000) tt)
 
 pub overflow_add-result : goal.overflow_add-result
 overflow_add-result c =
-    simp (c.n-m.ensures.value, c.n-n.ensures.value, c.n-o.ensures.value, c.c-i.ensures.value, c.c-j.ensures.value, c.c-k.ensures.value)
-    (fits (rows c.args.a.now c.args.b.now c.args.c.now) row_limits w128 (rows_within _ _ _ c.c-i.ensures.fits c.c-j.ensures.fits c.c-k.ensures.fits) (search reads depth 40 fits 20000) tt)
+    fits (c.part.result ∷ c.part-2.result ∷ c.part-3.result ∷ []) part_limits w128 (c.part.ensures.size, (c.part-2.ensures.size, (c.part-3.ensures.size, tt))) (search reads depth 40 fits 20000) tt
 
 pub returns : goal.returns
 returns c =
-    simp (c.n-m.ensures.value, c.n-n.ensures.value, c.n-o.ensures.value, c.c-i.ensures.value, c.c-j.ensures.value, c.c-k.ensures.value)
-    (computed (rows c.args.a.now c.args.b.now c.args.c.now) row_limits (rows_within _ _ _ c.c-i.ensures.fits c.c-j.ensures.fits c.c-k.ensures.fits) (search reads depth 40 fits 20000) tt)
+    let value : c.part.result -ℤ c.part-2.result +ℤ c.part-3.result ≡ determinant c.args.a.now c.args.b.now c.args.c.now =
+    simp (c.part.ensures.value, c.part-2.ensures.value, c.part-3.ensures.value) (determinant_by_offsets c.args.a.now c.args.b.now c.args.c.now)
+    in
+    computed (c.part.result ∷ c.part-2.result ∷ c.part-3.result ∷ []) part_limits (c.part.ensures.size, (c.part-2.ensures.size, (c.part-3.ensures.size, tt))) (search reads depth 40 fits 20000) tt ∙ value
