@@ -5,12 +5,10 @@ ghost use Rattle.agent_kdtree.specs.Stands.{StandsFor};
 ghost use Rattle.crowd_data.specs.Advice.{place_of};
 ghost use Rattle.crowd_data.specs.Limits.{IsVelocity};
 
+use crate::scenarios::scenario_of;
 use agent_kdtree::Tree;
 use agent_step::{Advice, FrozenCrowd, Polygons, Scratch, WallBlocks, advise};
-use crowd_data::{
-    Agent, FINE_RING, LATEST_VERSION, Mark, PLAIN_RING, Place, Scenario, Segment, first_frame,
-    valid,
-};
+use crowd_data::{Agent, FINE_RING, Mark, PLAIN_RING, Place, Scenario, Segment, first_frame};
 use fixed_vec::{List, NoMemory, V2, dot};
 use std::alloc::Global;
 use std::test::Fail;
@@ -71,8 +69,7 @@ fn first_advice(alloc: Global, scenario: &Scenario, who: usize) -> Result<Advice
     Ok(advise(&crowd, who, &mut scratch))
 }
 
-// The advice of one of these agents among segments, their polygons being made by this ring. What the agents and
-// segments are is tested as it runs, so that no proof computes on them.
+// The advice of one of these agents among segments, the speed polygons being made by this ring.
 fn advice_in(
     alloc: Global,
     ring: u32,
@@ -82,33 +79,11 @@ fn advice_in(
 ) -> Result<Advice, Fail>
     ensures slow { IfOk result (λ a. IsVelocity a.vel) }
 {
-    let mut agents = List::with_room(alloc, crowd.len())?;
-    for agent in crowd {
-        agents.reserve(1)?;
-        agents.push(*agent);
-    }
-    let mut walls = List::with_room(alloc, segments.len())?;
-    for segment in segments {
-        walls.reserve(1)?;
-        walls.push(*segment);
-    }
-    let posts = List::with_room(alloc, 0)?;
-    let goals = List::with_room(alloc, 0)?;
-    if who < agents.items().len()
-        && valid(
-            LATEST_VERSION,
-            ring,
-            0,
-            agents.items(),
-            walls.items(),
-            posts.items(),
-            goals.items(),
-        )
-    {
-        let scenario = Scenario::of(LATEST_VERSION, ring, 0, agents, walls, posts, goals);
+    let scenario = scenario_of(alloc, ring, crowd, segments, &[])?;
+    if who < scenario.agents().len() {
         first_advice(alloc, &scenario, who)
     } else {
-        Ok(Err::<Advice, &str>("a test asks for what is no crowd")?)
+        Ok(Err::<Advice, &str>("a test asks for what is no agent")?)
     }
 }
 

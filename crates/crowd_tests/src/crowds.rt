@@ -1,44 +1,52 @@
 // Scenarios that stand for themselves, and their first frames.
-use crowd_data::{Agent, Body, Goal, Mark, Scenario, Segment, clear, first_frame, valid};
-use fixed_vec::{List, V2};
+use crate::scenarios::scenario_of;
+use crowd_data::{
+    Agent, Body, FINE_RING, Goal, Mark, PLAIN_RING, Segment, clear, first_frame, valid,
+};
+use fixed_vec::V2;
+use std::alloc::Global;
 use std::test::Fail;
 
+const EACH_ITS_OWN: Agent = Agent {
+    pos: V2 { x: 1, y: 2 },
+    vel: V2 { x: 3, y: 4 },
+    pref: V2 { x: 5, y: 6 },
+    radius: 7,
+    speed: 8,
+    range: 9,
+    most: 10,
+    horizon: 11,
+    wall_horizon: 12,
+    weight: 13,
+};
+
+// The version, the ring and the count of controllers of a scenario of one agent with a goal.
+fn head_of(alloc: Global, ring: u32, agent: Agent, goal: Goal) -> Result<[u32; 3], Fail> {
+    let scenario = scenario_of(alloc, ring, &[agent], &[], &[goal])?;
+    Ok([scenario.version(), scenario.ring(), scenario.controllers()])
+}
+
+// Whether one agent's body is this one in frame 0.
+fn begins_as(alloc: Global, agent: Agent, body: Body) -> Result<bool, Fail> {
+    let frame = first_frame(alloc, &scenario_of(alloc, PLAIN_RING, &[agent], &[], &[])?)?;
+    Ok(frame.number == 0 && frame.bodies.items() == [body].as_slice())
+}
+
 #[test]
-fn first_frame_has_the_agents_as_they_are(rt: HostRuntime) -> Result<(), Fail> {
-    let mut agents = List::with_room(rt.alloc(), 1)?;
-    agents.push(Agent {
-        pos: V2 { x: 1, y: 2 },
-        vel: V2 { x: 3, y: 4 },
-        pref: V2 { x: 5, y: 6 },
-        radius: 7,
-        speed: 8,
-        range: 9,
-        most: 10,
-        horizon: 11,
-        wall_horizon: 12,
-        weight: 13,
-    });
-    let mut goals = List::with_room(rt.alloc(), 1)?;
-    goals.push(Goal {
+fn scenario_has_its_numbers(rt: HostRuntime) -> Result<(), Fail> {
+    let goal = Goal {
         controller: 3,
         agent: 0,
         at: V2 { x: 0, y: 0 },
         pace: 1,
-    });
-    let scenario = Scenario::of(
-        2,
-        60,
-        2,
-        agents,
-        List::with_room(rt.alloc(), 0)?,
-        List::with_room(rt.alloc(), 0)?,
-        goals,
-    );
-    assert_eq!(rt; scenario.version(), 2);
-    assert_eq!(rt; scenario.ring(), 60);
-    assert_eq!(rt; scenario.controllers(), 4);
-    let frame = first_frame(rt.alloc(), &scenario)?;
-    assert_eq!(rt; frame.number, 0);
+    };
+    let head = head_of(rt.alloc(), FINE_RING, EACH_ITS_OWN, goal)?;
+    assert_eq!(rt; head, [2, 60, 4]);
+    Ok(())
+}
+
+#[test]
+fn first_frame_has_the_agents_as_they_are(rt: HostRuntime) -> Result<(), Fail> {
     let body = Body {
         agent: 0,
         pos: V2 { x: 1, y: 2 },
@@ -47,7 +55,7 @@ fn first_frame_has_the_agents_as_they_are(rt: HostRuntime) -> Result<(), Fail> {
         mark: Mark::Start,
         relief: 0,
     };
-    assert_eq!(rt; frame.bodies.items(), [body].as_slice());
+    assert!(rt; begins_as(rt.alloc(), EACH_ITS_OWN, body)?);
     Ok(())
 }
 

@@ -12,4 +12,6 @@ mod laws;
 #[cfg(test)]
 mod neighbours;
 #[cfg(test)]
+mod scenarios;
+#[cfg(test)]
 mod validity;
