@@ -20,6 +20,9 @@ const ONE_AGENT_LINES: [&[u8]; 8] = [
     b"end,1\n",
 ];
 
+const ONE_AGENT_TEXT: &[u8] =
+    b"crowd,1\nsteps,1\nagent,0,0,0,0,300,0,500,400,15000,0,10,4\nframe,0\nbody,0,0,0,0,0,300,0,start,0\nframe,1\nbody,0,300,0,300,0,300,0,feasible,0\nend,1\n";
+
 const ROOM: usize = 100_000;
 
 pub(crate) fn bytes_of(alloc: Global, text: &[u8]) -> Result<List<u8>, NoMemory> {
@@ -86,6 +89,70 @@ pub(crate) fn ask<R: Threads + Wait + Sync>(
     run_on(rt, alloc, words, bytes_of(alloc, input)?, NONE)
 }
 
+// What has come of a call.
+#[derive(Clone, Copy)]
+struct Outcome<'a> {
+    status: u8,
+    out: &'a [u8],
+    err: &'a [u8],
+}
+
+fn is_outcome(ended: &Ended, wanted: Outcome) -> bool {
+    ended.status == wanted.status
+        && ended.out.held() == wanted.out
+        && ended.err.held() == wanted.err
+}
+
+/// Whether the words over an input, where nothing fails, answer this status and write this to the output and to the
+/// error output.
+pub(crate) fn answers<R: Threads + Wait + Sync>(
+    rt: &R,
+    alloc: Global,
+    words: &[&str],
+    input: &[u8],
+    status: u8,
+    out: &[u8],
+    err: &[u8],
+) -> Result<bool, Fail> {
+    let ended = ask(rt, alloc, words, input)?;
+    Ok(is_outcome(&ended, Outcome { status, out, err }))
+}
+
+/// Whether two lists of words write the same over an input, both with status 0.
+pub(crate) fn are_alike<R: Threads + Wait + Sync>(
+    rt: &R,
+    alloc: Global,
+    words: [&[&str]; 2],
+    input: &[u8],
+) -> Result<bool, Fail> {
+    let [first, second] = words;
+    let wanted = ask(rt, alloc, first, input)?;
+    let ended = ask(rt, alloc, second, input)?;
+    Ok(
+        wanted.status == 0
+            && is_outcome(
+                &ended,
+                Outcome {
+                    status: 0,
+                    out: wanted.out.held(),
+                    err: b"",
+                },
+            ),
+    )
+}
+
+// Whether the words over one agent have this outcome where these calls fail.
+fn fails_as<R: Threads + Wait + Sync>(
+    rt: &R,
+    alloc: Global,
+    words: &[&str],
+    faults: Faults,
+    wanted: Outcome,
+) -> Result<bool, Fail> {
+    let ended = run_on(rt, alloc, words, bytes_of(alloc, ONE_AGENT)?, faults)?;
+    Ok(is_outcome(&ended, wanted))
+}
+
 fn run<R: Threads + Wait + Sync>(rt: &R, alloc: Global, input: &[u8]) -> Result<Ended, Fail> {
     run_on(rt, alloc, &["run"], bytes_of(alloc, input)?, NONE)
 }
@@ -103,58 +170,58 @@ pub(crate) fn ends_with<R: Threads + Wait + Sync>(
 
 #[test]
 fn prints_one_agent(rt: HostRuntime) -> Result<(), Fail> {
-    let ended = run(&rt, rt.alloc(), ONE_AGENT)?;
-    assert_eq!(rt; ended.status, 0);
-    let text: &[u8] =
-        b"crowd,1\nsteps,1\nagent,0,0,0,0,300,0,500,400,15000,0,10,4\nframe,0\nbody,0,0,0,0,0,300,0,start,0\nframe,1\nbody,0,300,0,300,0,300,0,feasible,0\nend,1\n";
-    assert_eq!(rt; ended.out.held().len(), 144);
-    assert_eq!(rt; ended.out.held(), text);
-    assert_eq!(rt; ended.err.held(), b"".as_slice());
+    assert_eq!(rt; ONE_AGENT_TEXT.len(), 144);
+    assert!(rt; answers(&rt, rt.alloc(), &["run"], ONE_AGENT, 0, ONE_AGENT_TEXT, b"")?);
     Ok(())
 }
 
 #[test]
 fn prints_no_agents(rt: HostRuntime) -> Result<(), Fail> {
-    let ended = run(&rt, rt.alloc(), b"crowd,1\nsteps,1\n")?;
-    assert_eq!(rt; ended.status, 0);
-    assert_eq!(rt;
-        ended.out.held(),
-        b"crowd,1\nsteps,1\nframe,0\nframe,1\nend,1\n".as_slice()
+    let text: &[u8] = b"crowd,1\nsteps,1\nframe,0\nframe,1\nend,1\n";
+    assert!(rt;
+        answers(
+            &rt,
+            rt.alloc(),
+            &["run"],
+            b"crowd,1\nsteps,1\n",
+            0,
+            text,
+            b""
+        )?
     );
     Ok(())
 }
 
 #[test]
 fn prints_no_steps(rt: HostRuntime) -> Result<(), Fail> {
-    let ended = run(
-        &rt,
-        rt.alloc(),
-        b"crowd,1\nsteps,0\nagent,0,0,0,0,300,0,500,400,15000,0,10,4\n",
-    )?;
-    assert_eq!(rt; ended.status, 0);
-    assert_eq!(rt;
-        ended.out.held(),
-        b"crowd,1\nsteps,0\nagent,0,0,0,0,300,0,500,400,15000,0,10,4\nframe,0\nbody,0,0,0,0,0,300,0,start,0\nend,0\n".as_slice()
-    );
+    let input: &[u8] = b"crowd,1\nsteps,0\nagent,0,0,0,0,300,0,500,400,15000,0,10,4\n";
+    let text: &[u8] =
+        b"crowd,1\nsteps,0\nagent,0,0,0,0,300,0,500,400,15000,0,10,4\nframe,0\nbody,0,0,0,0,0,300,0,start,0\nend,0\n";
+    assert!(rt; answers(&rt, rt.alloc(), &["run"], input, 0, text, b"")?);
     Ok(())
+}
+
+// The status and the bytes written of a run of one agent whose write of this number fails.
+fn written_until<R: Threads + Wait + Sync>(
+    rt: &R,
+    alloc: Global,
+    call: u32,
+) -> Result<(u8, usize), Fail> {
+    let faults = Faults {
+        out: Some(call),
+        ..NONE
+    };
+    let ended = run_on(rt, alloc, &["run"], bytes_of(alloc, ONE_AGENT)?, faults)?;
+    Ok((ended.status, ended.out.held().len()))
 }
 
 #[test]
 fn each_line_is_one_piece(rt: HostRuntime) -> Result<(), Fail> {
-    for call in 0..8u32 {
-        let faults = Faults {
-            out: Some(call),
-            ..NONE
-        };
-        let input = bytes_of(rt.alloc(), ONE_AGENT)?;
-        let ended = run_on(&rt, rt.alloc(), &["run"], input, faults)?;
-        let mut size = 0usize;
-        for line in ONE_AGENT_LINES.iter().take(call as usize) {
-            size = size.wrapping_add(line.len());
-        }
-        assert_eq!(rt; ended.status, 5);
-        assert_eq!(rt; ended.out.held().len(), size);
-        assert_eq!(rt; ended.err.held(), b"write fault\n".as_slice());
+    let mut size = 0usize;
+    for (call, line) in ONE_AGENT_LINES.iter().enumerate() {
+        let written = written_until(&rt, rt.alloc(), call as u32)?;
+        assert_eq!(rt; written, (5, size));
+        size = size.wrapping_add(line.len());
     }
     Ok(())
 }
@@ -165,10 +232,12 @@ fn third_write_fails(rt: HostRuntime) -> Result<(), Fail> {
         out: Some(2),
         ..NONE
     };
-    let input = bytes_of(rt.alloc(), ONE_AGENT)?;
-    let ended = run_on(&rt, rt.alloc(), &["run"], input, faults)?;
-    assert_eq!(rt; ended.status, 5);
-    assert_eq!(rt; ended.out.held(), b"crowd,1\nsteps,1\n".as_slice());
+    let wanted = Outcome {
+        status: 5,
+        out: b"crowd,1\nsteps,1\n",
+        err: b"write fault\n",
+    };
+    assert!(rt; fails_as(&rt, rt.alloc(), &["run"], faults, wanted)?);
     Ok(())
 }
 
@@ -178,11 +247,12 @@ fn first_read_fails(rt: HostRuntime) -> Result<(), Fail> {
         source: Some(0),
         ..NONE
     };
-    let input = bytes_of(rt.alloc(), ONE_AGENT)?;
-    let ended = run_on(&rt, rt.alloc(), &["run"], input, faults)?;
-    assert_eq!(rt; ended.status, 4);
-    assert_eq!(rt; ended.out.held(), b"".as_slice());
-    assert_eq!(rt; ended.err.held(), b"read fault\n".as_slice());
+    let wanted = Outcome {
+        status: 4,
+        out: b"",
+        err: b"read fault\n",
+    };
+    assert!(rt; fails_as(&rt, rt.alloc(), &["run"], faults, wanted)?);
     Ok(())
 }
 
@@ -192,29 +262,38 @@ fn failing_error_output_changes_no_status(rt: HostRuntime) -> Result<(), Fail> {
         err: Some(0),
         ..NONE
     };
-    let ended = run_on(
-        &rt,
-        rt.alloc(),
-        &["walk"],
-        bytes_of(rt.alloc(), b"")?,
-        faults,
-    )?;
-    assert_eq!(rt; ended.status, 2);
-    assert_eq!(rt; ended.err.held(), b"".as_slice());
+    let wanted = Outcome {
+        status: 2,
+        out: b"",
+        err: b"",
+    };
+    assert!(rt; fails_as(&rt, rt.alloc(), &["walk"], faults, wanted)?);
     Ok(())
+}
+
+// Whether the run of so many empty lines has this outcome.
+fn run_of_lines<R: Threads + Wait + Sync>(
+    rt: &R,
+    alloc: Global,
+    count: usize,
+    wanted: Outcome,
+) -> Result<bool, Fail> {
+    let mut input = List::with_room(alloc, count)?;
+    for _ in 0..count {
+        input.reserve(1)?;
+        input.push(b'\n');
+    }
+    Ok(is_outcome(&run_on(rt, alloc, &["run"], input, NONE)?, wanted))
 }
 
 #[test]
 fn input_is_one_byte_too_long(rt: HostRuntime) -> Result<(), Fail> {
-    let mut input = List::with_room(rt.alloc(), 16_777_217)?;
-    for _ in 0..16_777_217usize {
-        input.reserve(1)?;
-        input.push(b'\n');
-    }
-    let ended = run_on(&rt, rt.alloc(), &["run"], input, NONE)?;
-    assert_eq!(rt; ended.status, 6);
-    assert_eq!(rt; ended.out.held(), b"".as_slice());
-    assert_eq!(rt; ended.err.held(), b"input too long\n".as_slice());
+    let wanted = Outcome {
+        status: 6,
+        out: b"",
+        err: b"input too long\n",
+    };
+    assert!(rt; run_of_lines(&rt, rt.alloc(), 16_777_217, wanted)?);
     Ok(())
 }
 
@@ -273,11 +352,8 @@ fn names_the_first_cause(rt: HostRuntime) -> Result<(), Fail> {
             b"refused: record 4: AgentOnSegment agent 0 segment 0\n",
         ),
     ];
-    for (input, line) in refused.iter() {
-        let ended = run(&rt, rt.alloc(), input)?;
-        assert_eq!(rt; ended.status, 3);
-        assert_eq!(rt; ended.out.held(), b"".as_slice());
-        assert_eq!(rt; ended.err.held(), *line);
+    for (input, line) in refused {
+        assert!(rt; answers(&rt, rt.alloc(), &["run"], input, 3, b"", line)?);
     }
     Ok(())
 }
@@ -285,13 +361,9 @@ fn names_the_first_cause(rt: HostRuntime) -> Result<(), Fail> {
 // A quoted number, a line end of two bytes and a byte order mark are read like any other.
 #[test]
 fn reads_records_as_csv_does(rt: HostRuntime) -> Result<(), Fail> {
-    let ended = run(
-        &rt,
-        rt.alloc(),
-        b"\xef\xbb\xbfcrowd,\"1\"\r\n\r\nsteps,01\r\nagent,-0,0,0,0,300,0,500,400,15000,0,10,4",
-    )?;
-    assert_eq!(rt; ended.status, 0);
-    assert_eq!(rt; ended.out.held().len(), 144);
+    let input: &[u8] =
+        b"\xef\xbb\xbfcrowd,\"1\"\r\n\r\nsteps,01\r\nagent,-0,0,0,0,300,0,500,400,15000,0,10,4";
+    assert!(rt; answers(&rt, rt.alloc(), &["run"], input, 0, ONE_AGENT_TEXT, b"")?);
     Ok(())
 }
 
@@ -315,7 +387,7 @@ fn first_step<R: Threads + Wait + Sync>(
 fn corner_of_the_polygon(rt: HostRuntime) -> Result<(), Fail> {
     let agent: &[u8] = b"agent,0,0,0,0,1000,0,500,66,15000,10,10,4\n";
     let line: &[u8] = b"frame,1\nbody,0,65,0,65,0,1000,0,feasible,0\nend,1\n";
-    assert_eq!(rt; first_step(&rt, rt.alloc(), agent, line)?, true);
+    assert!(rt; first_step(&rt, rt.alloc(), agent, line)?);
     Ok(())
 }
 
@@ -323,9 +395,9 @@ fn corner_of_the_polygon(rt: HostRuntime) -> Result<(), Fail> {
 fn polygon_is_one_point(rt: HostRuntime) -> Result<(), Fail> {
     let line: &[u8] = b"frame,1\nbody,0,0,0,0,0,5,0,feasible,0\nend,1\n";
     let still: &[u8] = b"agent,0,0,0,0,5,0,500,0,15000,10,10,4\n";
-    assert_eq!(rt; first_step(&rt, rt.alloc(), still, line)?, true);
+    assert!(rt; first_step(&rt, rt.alloc(), still, line)?);
     let slow: &[u8] = b"agent,0,0,0,0,5,0,500,1,15000,10,10,4\n";
-    assert_eq!(rt; first_step(&rt, rt.alloc(), slow, line)?, true);
+    assert!(rt; first_step(&rt, rt.alloc(), slow, line)?);
     Ok(())
 }
 
@@ -333,20 +405,16 @@ fn polygon_is_one_point(rt: HostRuntime) -> Result<(), Fail> {
 fn largest_numbers(rt: HostRuntime) -> Result<(), Fail> {
     let agent: &[u8] = b"agent,4194304,0,0,0,16384,0,32768,16384,65536,64,4096,4096\n";
     let line: &[u8] = b"frame,1\nbody,0,4210687,0,16383,0,16384,0,feasible,0\nend,1\n";
-    assert_eq!(rt; first_step(&rt, rt.alloc(), agent, line)?, true);
+    assert!(rt; first_step(&rt, rt.alloc(), agent, line)?);
     Ok(())
 }
 
 // The second step is made from the first, and the preferred velocity of a slanted walk is kept.
 #[test]
 fn walks_on(rt: HostRuntime) -> Result<(), Fail> {
-    let ended = run(
-        &rt,
-        rt.alloc(),
-        b"crowd,1\nsteps,2\nagent,-5,-2,9,9,180,-75,500,400,0,0,1,1\n",
-    )?;
+    let input: &[u8] = b"crowd,1\nsteps,2\nagent,-5,-2,9,9,180,-75,500,400,0,0,1,1\n";
     let line: &[u8] =
         b"frame,1\nbody,0,175,-77,180,-75,180,-75,feasible,0\nframe,2\nbody,0,355,-152,180,-75,180,-75,feasible,0\nend,2\n";
-    assert_eq!(rt; ended.out.held().ends_with(line), true);
+    assert!(rt; ends_with(&rt, rt.alloc(), input, line)?);
     Ok(())
 }

@@ -1,4 +1,6 @@
 // A circle of 36 agents that cross: each is bound for the opposite side.
+ghost use Rattle.std.specs.Prelude.{length, ◌<◌};
+
 use crate::calls::bytes_of;
 use fixed_vec::List;
 use orca_cli::orca;
@@ -77,36 +79,77 @@ fn count_lines(bytes: &[u8]) -> usize {
     bytes.iter().filter(|byte| **byte == b'\n').count()
 }
 
+// Whether they write just this of it.
+fn is_written<R: Threads + Wait + Sync>(
+    rt: &R,
+    alloc: Global,
+    words: &[&str],
+    steps: u32,
+    wanted: &[u8],
+) -> Result<bool, Fail> {
+    Ok(written(rt, alloc, words, steps)?.held() == wanted)
+}
+
+// Whether these lines stand in what they write of it.
+fn has_lines<R: Threads + Wait + Sync>(
+    rt: &R,
+    alloc: Global,
+    words: &[&str],
+    steps: u32,
+    lines: &[u8],
+) -> Result<bool, Fail>
+    requires { 0 < length lines.now }
+{
+    Ok(
+        written(rt, alloc, words, steps)?
+            .held()
+            .windows(lines.len())
+            .any(|window| window == lines),
+    )
+}
+
+// How many bytes and lines a run of it writes.
+fn size_of_run<R: Threads + Wait + Sync>(
+    rt: &R,
+    alloc: Global,
+    steps: u32,
+) -> Result<(usize, usize), Fail> {
+    let out = written(rt, alloc, &["run"], steps)?;
+    Ok((out.held().len(), count_lines(out.held())))
+}
+
+// Whether they write the same of it as a run with one worker.
+fn is_same_run<R: Threads + Wait + Sync>(
+    rt: &R,
+    alloc: Global,
+    words: &[&str],
+    steps: u32,
+) -> Result<bool, Fail> {
+    let one = written(rt, alloc, &["run"], steps)?;
+    is_written(rt, alloc, words, steps, one.held())
+}
+
 #[test]
 fn size_of_the_circle(rt: HostRuntime) -> Result<(), Fail> {
-    let out = written(&rt, rt.alloc(), &["check"], 400)?;
-    assert_eq!(rt; out.held(), b"accepted,36,0,0,36,400\n".as_slice());
+    let size: &[u8] = b"accepted,36,0,0,36,400\n";
+    assert!(rt; is_written(&rt, rt.alloc(), &["check"], 400, size)?);
     Ok(())
 }
 
 // In the first frame nobody has a neighbour in range.
 #[test]
 fn first_frame_of_the_circle(rt: HostRuntime) -> Result<(), Fail> {
-    let out = written(&rt, rt.alloc(), &["run"], 1)?;
     let lines: &[u8] =
         b"frame,1\nbody,0,194545,0,-455,0,-455,0,feasible,0\nbody,1,188559,47888,-441,-112,-441,-112,feasible,0\n";
-    assert_eq!(rt;
-        out.held()
-            .windows(lines.len())
-            .any(|window| window == lines),
-        true
-    );
+    assert!(rt; has_lines(&rt, rt.alloc(), &["run"], 1, lines)?);
     Ok(())
 }
 
 #[test]
 fn workers_write_the_same_circle(rt: HostRuntime) -> Result<(), Fail> {
-    let one = written(&rt, rt.alloc(), &["run"], 400)?;
-    assert_eq!(rt; one.held().len(), 715_920);
-    assert_eq!(rt; count_lines(one.held()), 14_912);
-    let two = written(&rt, rt.alloc(), &["run", "--workers=2"], 400)?;
-    assert_eq!(rt; two.held(), one.held());
-    let seven = written(&rt, rt.alloc(), &["run", "--workers=7"], 400)?;
-    assert_eq!(rt; seven.held(), one.held());
+    let size = size_of_run(&rt, rt.alloc(), 400)?;
+    assert_eq!(rt; size, (715_920, 14_912));
+    assert!(rt; is_same_run(&rt, rt.alloc(), &["run", "--workers=2"], 400)?);
+    assert!(rt; is_same_run(&rt, rt.alloc(), &["run", "--workers=7"], 400)?);
     Ok(())
 }

@@ -1,5 +1,5 @@
 // Runs with controllers.
-use crate::calls::{ask, bytes_of};
+use crate::calls::{answers, are_alike, bytes_of};
 use fixed_vec::List;
 use orca_cli::offline;
 use outside_io::{MemSink, MemSource, OpenGate};
@@ -10,11 +10,18 @@ use std::test::Fail;
 fn one_controller_with_one_goal(rt: HostRuntime) -> Result<(), Fail> {
     let input: &[u8] =
         b"crowd,1\nsteps,1\nagent,0,0,0,0,0,0,500,400,15000,10,10,4\ngoal,0,0,1000,0,300\n";
-    let ended = ask(&rt, rt.alloc(), &["live", "--workers=2"], input)?;
-    assert_eq!(rt; ended.status, 0);
-    assert_eq!(rt;
-        ended.out.held(),
-        b"crowd,1\nsteps,1\nagent,0,0,0,0,0,0,500,400,15000,10,10,4\ngoal,0,0,1000,0,300\nframe,0\nbody,0,0,0,0,0,0,0,start,0\nframe,1\ntake,0,0,0,300,0\nbody,0,300,0,300,0,300,0,feasible,0\nend,1\n".as_slice()
+    let text: &[u8] =
+        b"crowd,1\nsteps,1\nagent,0,0,0,0,0,0,500,400,15000,10,10,4\ngoal,0,0,1000,0,300\nframe,0\nbody,0,0,0,0,0,0,0,start,0\nframe,1\ntake,0,0,0,300,0\nbody,0,300,0,300,0,300,0,feasible,0\nend,1\n";
+    assert!(rt;
+        answers(
+            &rt,
+            rt.alloc(),
+            &["live", "--workers=2"],
+            input,
+            0,
+            text,
+            b""
+        )?
     );
     Ok(())
 }
@@ -24,27 +31,16 @@ fn one_controller_with_one_goal(rt: HostRuntime) -> Result<(), Fail> {
 fn no_controller(rt: HostRuntime) -> Result<(), Fail> {
     let input: &[u8] =
         b"crowd,1\nsteps,2\nagent,0,0,0,0,0,0,500,400,15000,10,10,4\npost,1,0,100,0\npost,2,0,0,100\n";
-    let live = ask(&rt, rt.alloc(), &["live"], input)?;
-    let run = ask(&rt, rt.alloc(), &["run"], input)?;
-    assert_eq!(rt; live.status, 0);
-    assert_eq!(rt; live.out.held(), run.out.held());
+    let words: [&[&str]; 2] = [&["run"], &["live"]];
+    assert!(rt; are_alike(&rt, rt.alloc(), words, input)?);
     Ok(())
 }
 
 #[test]
 fn refused_scenario_runs_no_controller(rt: HostRuntime) -> Result<(), Fail> {
-    let ended = ask(
-        &rt,
-        rt.alloc(),
-        &["live"],
-        b"crowd,1\nsteps,1\ngoal,0,0,1000,0,300\n",
-    )?;
-    assert_eq!(rt; ended.status, 3);
-    assert_eq!(rt; ended.out.held(), b"".as_slice());
-    assert_eq!(rt;
-        ended.err.held(),
-        b"refused: record 2: NoSuchAgent\n".as_slice()
-    );
+    let input: &[u8] = b"crowd,1\nsteps,1\ngoal,0,0,1000,0,300\n";
+    let cause: &[u8] = b"refused: record 2: NoSuchAgent\n";
+    assert!(rt; answers(&rt, rt.alloc(), &["live"], input, 3, b"", cause)?);
     Ok(())
 }
 

@@ -1,5 +1,5 @@
 // Runs with scripted posts and with goals.
-use crate::calls::{ask, ends_with};
+use crate::calls::{answers, ends_with};
 use std::test::Fail;
 
 // Two posts for one agent in one frame: the last one wins, and both are printed.
@@ -9,7 +9,7 @@ fn last_of_two_posts_wins(rt: HostRuntime) -> Result<(), Fail> {
         b"crowd,1\nsteps,1\nagent,0,0,0,0,0,0,500,400,15000,10,10,4\npost,1,0,100,0\npost,1,0,0,100\n";
     let lines: &[u8] =
         b"frame,1\ntake,16,0,0,100,0\ntake,16,1,0,0,100\nbody,0,0,100,0,100,0,100,feasible,0\nend,1\n";
-    assert_eq!(rt; ends_with(&rt, rt.alloc(), input, lines)?, true);
+    assert!(rt; ends_with(&rt, rt.alloc(), input, lines)?);
     Ok(())
 }
 
@@ -21,7 +21,7 @@ fn each_post_stands_in_its_frame(rt: HostRuntime) -> Result<(), Fail> {
         b"crowd,1\nsteps,3\nagent,0,0,0,0,0,0,500,400,15000,10,10,4\npost,1,0,100,0\npost,3,0,0,-200\n";
     let lines: &[u8] =
         b"frame,1\ntake,16,0,0,100,0\nbody,0,100,0,100,0,100,0,feasible,0\nframe,2\nbody,0,200,0,100,0,100,0,feasible,0\nframe,3\ntake,16,1,0,0,-200\nbody,0,200,-200,0,-200,0,-200,feasible,0\nend,3\n";
-    assert_eq!(rt; ends_with(&rt, rt.alloc(), input, lines)?, true);
+    assert!(rt; ends_with(&rt, rt.alloc(), input, lines)?);
     Ok(())
 }
 
@@ -29,23 +29,13 @@ fn each_post_stands_in_its_frame(rt: HostRuntime) -> Result<(), Fail> {
 #[test]
 fn goals_are_carried(rt: HostRuntime) -> Result<(), Fail> {
     let input: &[u8] =
+        b"crowd,1\nsteps,1\nagent,0,0,0,0,0,0,500,400,15000,10,10,4\ngoal,0,0,1000,0,300\n";
+    let text: &[u8] =
+        b"crowd,1\nsteps,1\nagent,0,0,0,0,0,0,500,400,15000,10,10,4\ngoal,0,0,1000,0,300\nframe,0\nbody,0,0,0,0,0,0,0,start,0\nframe,1\nbody,0,0,0,0,0,0,0,feasible,0\nend,1\n";
+    assert!(rt; answers(&rt, rt.alloc(), &["run"], input, 0, text, b"")?);
+    let early: &[u8] =
         b"crowd,1\nsteps,1\ngoal,0,0,1000,0,300\nagent,0,0,0,0,0,0,500,400,15000,10,10,4\n";
-    let ended = ask(
-        &rt,
-        rt.alloc(),
-        &["run"],
-        b"crowd,1\nsteps,1\nagent,0,0,0,0,0,0,500,400,15000,10,10,4\ngoal,0,0,1000,0,300\n",
-    )?;
-    assert_eq!(rt; ended.status, 0);
-    assert_eq!(rt;
-        ended.out.held(),
-        b"crowd,1\nsteps,1\nagent,0,0,0,0,0,0,500,400,15000,10,10,4\ngoal,0,0,1000,0,300\nframe,0\nbody,0,0,0,0,0,0,0,start,0\nframe,1\nbody,0,0,0,0,0,0,0,feasible,0\nend,1\n".as_slice()
-    );
-    let early = ask(&rt, rt.alloc(), &["run"], input)?;
-    assert_eq!(rt; early.status, 3);
-    assert_eq!(rt;
-        early.err.held(),
-        b"refused: record 2: NoSuchAgent\n".as_slice()
-    );
+    let cause: &[u8] = b"refused: record 2: NoSuchAgent\n";
+    assert!(rt; answers(&rt, rt.alloc(), &["run"], early, 3, b"", cause)?);
     Ok(())
 }

@@ -1,5 +1,5 @@
 // Scenarios of version 2: weights, and the finer ring.
-use crate::calls::{ask, ends_with};
+use crate::calls::{answers, ends_with};
 use std::test::Fail;
 
 // Two discs at one place lack 1000: the one with three parts of four takes 750 of it, drawn in 751.
@@ -9,7 +9,7 @@ fn weights_split_what_is_lacking(rt: HostRuntime) -> Result<(), Fail> {
         b"crowd,2\nsteps,1\nagent,0,0,0,0,0,0,500,800,15000,10,10,4,3\nagent,0,0,0,0,0,0,500,800,15000,10,10,4,1\n";
     let lines: &[u8] =
         b"frame,1\nbody,0,751,0,751,0,0,0,feasible,0\nbody,1,-251,0,-251,0,0,0,feasible,0\nend,1\n";
-    assert_eq!(rt; ends_with(&rt, rt.alloc(), input, lines)?, true);
+    assert!(rt; ends_with(&rt, rt.alloc(), input, lines)?);
     Ok(())
 }
 
@@ -20,12 +20,12 @@ fn a_walker_meets_a_lorry(rt: HostRuntime) -> Result<(), Fail> {
         b"crowd,2\nsteps,1\nagent,0,0,200,0,300,0,500,400,15000,10,10,4,1\nagent,10000,0,-200,0,-300,0,500,400,15000,10,10,4,16\n";
     let lines: &[u8] =
         b"frame,1\nbody,0,229,0,229,0,300,0,feasible,0\nbody,1,9700,0,-300,0,-300,0,feasible,0\nend,1\n";
-    assert_eq!(rt; ends_with(&rt, rt.alloc(), input, lines)?, true);
+    assert!(rt; ends_with(&rt, rt.alloc(), input, lines)?);
     let exchanged: &[u8] =
         b"crowd,2\nsteps,1\nagent,0,0,200,0,300,0,500,400,15000,10,10,4,16\nagent,10000,0,-200,0,-300,0,500,400,15000,10,10,4,1\n";
     let lines: &[u8] =
         b"frame,1\nbody,0,300,0,300,0,300,0,feasible,0\nbody,1,9771,0,-229,0,-300,0,feasible,0\nend,1\n";
-    assert_eq!(rt; ends_with(&rt, rt.alloc(), exchanged, lines)?, true);
+    assert!(rt; ends_with(&rt, rt.alloc(), exchanged, lines)?);
     Ok(())
 }
 
@@ -35,10 +35,10 @@ fn finer_ring(rt: HostRuntime) -> Result<(), Fail> {
     let fine: &[u8] =
         b"crowd,2\nsteps,1\nring,60\nagent,0,0,0,0,3230,360,500,326,15000,10,10,4,1\n";
     let lines: &[u8] = b"frame,1\nbody,0,323,36,323,36,3230,360,feasible,0\nend,1\n";
-    assert_eq!(rt; ends_with(&rt, rt.alloc(), fine, lines)?, true);
+    assert!(rt; ends_with(&rt, rt.alloc(), fine, lines)?);
     let plain: &[u8] = b"crowd,2\nsteps,1\nagent,0,0,0,0,3230,360,500,326,15000,10,10,4,1\n";
     let lines: &[u8] = b"frame,1\nbody,0,325,0,325,0,3230,360,feasible,0\nend,1\n";
-    assert_eq!(rt; ends_with(&rt, rt.alloc(), plain, lines)?, true);
+    assert!(rt; ends_with(&rt, rt.alloc(), plain, lines)?);
     Ok(())
 }
 
@@ -68,9 +68,7 @@ fn refusals_of_versions(rt: HostRuntime) -> Result<(), Fail> {
         ),
     ];
     for (input, line) in refusals {
-        let ended = ask(&rt, rt.alloc(), &["run"], input)?;
-        assert_eq!(rt; ended.status, 3);
-        assert_eq!(rt; ended.err.held(), line);
+        assert!(rt; answers(&rt, rt.alloc(), &["run"], input, 3, b"", line)?);
     }
     Ok(())
 }

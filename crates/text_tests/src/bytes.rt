@@ -1,9 +1,7 @@
 // The ends in memory and the ends of std, by example.
-ghost use Rattle.std.specs.Prelude.{◌≤◌};
-
 use fixed_vec::{List, NoMemory};
 use outside_io::{
-    Failed, Gate, MemSink, MemSource, OpenGate, ReadAllFault, StdSink, StdSource, read_all,
+    Gate, MemSink, MemSource, OpenGate, ReadAllFault, Sink, Source, StdSink, StdSource, read_all,
     write_whole,
 };
 use std::alloc::Global;
@@ -32,97 +30,120 @@ fn only(alloc: Global, call: u32) -> Result<List<u32>, NoMemory> {
     Ok(calls)
 }
 
-// The bytes of a source that gives at most a chunk a call.
-fn all_by(alloc: Global, chunk: usize) -> Result<List<u8>, Fail>
-    requires { 1 ≤ chunk }
-{
-    let bytes = bytes_of(alloc, b"crowd,1\n")?;
-    let mut source = MemSource::of(bytes, chunk, never(alloc)?);
-    Ok(read_all(alloc, &mut source, 100)?)
+// A source of this text that gives at most a chunk a call; one of the calls fails, if any.
+fn source_of(
+    alloc: Global,
+    text: &[u8],
+    chunk: usize,
+    fails: List<u32>,
+) -> Result<MemSource, NoMemory> {
+    Ok(MemSource::of(bytes_of(alloc, text)?, chunk.max(1), fails))
+}
+
+// Whether all that a source still has is read, and is this.
+fn gives<S: Source>(alloc: Global, source: &mut S, limit: u32, wanted: &[u8]) -> bool {
+    match read_all(alloc, source, limit as usize) {
+        Ok(all) => all.items() == wanted,
+        Err(_) => false,
+    }
+}
+
+// Whether reading all of a source ends with this fault.
+fn fails_with<S: Source>(alloc: Global, source: &mut S, limit: u32, wanted: ReadAllFault) -> bool {
+    match read_all(alloc, source, limit as usize) {
+        Ok(_) => false,
+        Err(fault) => fault == wanted,
+    }
+}
+
+// Whether a sink takes a piece.
+fn takes<S: Sink>(sink: &mut S, piece: &[u8]) -> bool {
+    write_whole(sink, piece).is_ok()
+}
+
+// Whether a sink holds this.
+fn holds(sink: &MemSink, wanted: &[u8]) -> bool {
+    sink.held() == wanted
 }
 
 #[test]
 fn reads_all_in_chunks(rt: HostRuntime) -> Result<(), Fail> {
-    assert_eq!(rt; all_by(rt.alloc(), 1)?.items(), b"crowd,1\n".as_slice());
-    assert_eq!(rt; all_by(rt.alloc(), 3)?.items(), b"crowd,1\n".as_slice());
-    assert_eq!(rt; all_by(rt.alloc(), 100)?.items(), b"crowd,1\n".as_slice());
+    for chunk in [1, 3, 100] {
+        let mut source = source_of(rt.alloc(), b"crowd,1\n", chunk, never(rt.alloc())?)?;
+        assert!(rt;
+            gives(rt.alloc(), &mut source, 100, b"crowd,1\n"),
+            "by {chunk}"
+        );
+    }
     Ok(())
 }
 
 #[test]
 fn first_read_fails(rt: HostRuntime) -> Result<(), Fail> {
-    let mut source = MemSource::of(bytes_of(rt.alloc(), b"abcd")?, 3, only(rt.alloc(), 0)?);
-    let fault = read_all(rt.alloc(), &mut source, 100).err();
-    assert_eq!(rt; fault, Some(ReadAllFault::ReadFault));
-    let all = read_all(rt.alloc(), &mut source, 100)?;
-    assert_eq!(rt; all.items(), b"abcd".as_slice());
+    let mut source = source_of(rt.alloc(), b"abcd", 3, only(rt.alloc(), 0)?)?;
+    assert!(rt; fails_with(rt.alloc(), &mut source, 100, ReadAllFault::ReadFault));
+    assert!(rt; gives(rt.alloc(), &mut source, 100, b"abcd"));
     Ok(())
 }
 
 #[test]
 fn read_fails_in_mid_stream(rt: HostRuntime) -> Result<(), Fail> {
-    let mut source = MemSource::of(bytes_of(rt.alloc(), b"abcdefg")?, 3, only(rt.alloc(), 1)?);
-    let fault = read_all(rt.alloc(), &mut source, 100).err();
-    assert_eq!(rt; fault, Some(ReadAllFault::ReadFault));
-    let rest = read_all(rt.alloc(), &mut source, 100)?;
-    assert_eq!(rt; rest.items(), b"defg".as_slice());
+    let mut source = source_of(rt.alloc(), b"abcdefg", 3, only(rt.alloc(), 1)?)?;
+    assert!(rt; fails_with(rt.alloc(), &mut source, 100, ReadAllFault::ReadFault));
+    assert!(rt; gives(rt.alloc(), &mut source, 100, b"defg"));
     Ok(())
 }
 
 #[test]
 fn reads_up_to_the_limit(rt: HostRuntime) -> Result<(), Fail> {
-    let mut source = MemSource::of(bytes_of(rt.alloc(), b"abcd")?, 3, never(rt.alloc())?);
-    let all = read_all(rt.alloc(), &mut source, 4)?;
-    assert_eq!(rt; all.items(), b"abcd".as_slice());
+    let mut source = source_of(rt.alloc(), b"abcd", 3, never(rt.alloc())?)?;
+    assert!(rt; gives(rt.alloc(), &mut source, 4, b"abcd"));
     Ok(())
 }
 
 #[test]
 fn stops_one_byte_past_the_limit(rt: HostRuntime) -> Result<(), Fail> {
-    let mut source = MemSource::of(bytes_of(rt.alloc(), b"abcdefgh")?, 100, never(rt.alloc())?);
-    let fault = read_all(rt.alloc(), &mut source, 3).err();
-    assert_eq!(rt; fault, Some(ReadAllFault::TooLong));
-    let rest = read_all(rt.alloc(), &mut source, 4)?;
-    assert_eq!(rt; rest.items(), b"efgh".as_slice());
+    let mut source = source_of(rt.alloc(), b"abcdefgh", 100, never(rt.alloc())?)?;
+    assert!(rt; fails_with(rt.alloc(), &mut source, 3, ReadAllFault::TooLong));
+    assert!(rt; gives(rt.alloc(), &mut source, 4, b"efgh"));
     Ok(())
 }
 
 #[test]
 fn third_write_fails(rt: HostRuntime) -> Result<(), Fail> {
     let mut sink = MemSink::open(rt.alloc(), 100, only(rt.alloc(), 2)?)?;
-    assert_eq!(rt; write_whole(&mut sink, b"steps,1\n"), Ok(()));
-    assert_eq!(rt; write_whole(&mut sink, b"end,0\n"), Ok(()));
-    assert_eq!(rt; write_whole(&mut sink, b"lost\n"), Err(Failed));
-    assert_eq!(rt; sink.held(), b"steps,1\nend,0\n".as_slice());
-    assert_eq!(rt; write_whole(&mut sink, b"more"), Ok(()));
-    assert_eq!(rt; sink.held(), b"steps,1\nend,0\nmore".as_slice());
+    assert!(rt; takes(&mut sink, b"steps,1\n"));
+    assert!(rt; takes(&mut sink, b"end,0\n"));
+    assert!(rt; !takes(&mut sink, b"lost\n"));
+    assert!(rt; holds(&sink, b"steps,1\nend,0\n"));
+    assert!(rt; takes(&mut sink, b"more"));
+    assert!(rt; holds(&sink, b"steps,1\nend,0\nmore"));
     Ok(())
 }
 
 #[test]
 fn piece_does_not_fit(rt: HostRuntime) -> Result<(), Fail> {
     let mut sink = MemSink::open(rt.alloc(), 4, never(rt.alloc())?)?;
-    assert_eq!(rt; write_whole(&mut sink, b"abc"), Ok(()));
-    assert_eq!(rt; write_whole(&mut sink, b"de"), Err(Failed));
-    assert_eq!(rt; sink.held(), b"abc".as_slice());
-    assert_eq!(rt; write_whole(&mut sink, b"d"), Ok(()));
-    assert_eq!(rt; sink.held(), b"abcd".as_slice());
+    assert!(rt; takes(&mut sink, b"abc"));
+    assert!(rt; !takes(&mut sink, b"de"));
+    assert!(rt; holds(&sink, b"abc"));
+    assert!(rt; takes(&mut sink, b"d"));
+    assert!(rt; holds(&sink, b"abcd"));
     Ok(())
 }
 
 #[test]
 fn empty_piece_makes_no_call(rt: HostRuntime) -> Result<(), Fail> {
     let mut sink = MemSink::open(rt.alloc(), 4, only(rt.alloc(), 0)?)?;
-    assert_eq!(rt; write_whole(&mut sink, b""), Ok(()));
-    assert_eq!(rt; write_whole(&mut sink, b"a"), Err(Failed));
+    assert!(rt; takes(&mut sink, b""));
+    assert!(rt; !takes(&mut sink, b"a"));
     Ok(())
 }
 
 #[test]
 fn reads_a_reader_of_std(rt: HostRuntime) -> Result<(), Fail> {
     let text: &[u8] = b"segment,0,0,9,9\n";
-    let all = read_all(rt.alloc(), &mut StdSource::new(text), 100)?;
-    assert_eq!(rt; all.items(), text);
+    assert!(rt; gives(rt.alloc(), &mut StdSource::new(text), 100, text));
     Ok(())
 }
 
@@ -146,10 +167,8 @@ impl Read for Interrupted {
 #[test]
 fn each_error_of_std_is_a_fault(rt: HostRuntime) -> Result<(), Fail> {
     let mut source = StdSource::new(Interrupted { turns: 0 });
-    let fault = read_all(rt.alloc(), &mut source, 100).err();
-    assert_eq!(rt; fault, Some(ReadAllFault::ReadFault));
-    let rest = read_all(rt.alloc(), &mut source, 100)?;
-    assert_eq!(rt; rest.items().len(), 0);
+    assert!(rt; fails_with(rt.alloc(), &mut source, 100, ReadAllFault::ReadFault));
+    assert!(rt; gives(rt.alloc(), &mut source, 100, b""));
     Ok(())
 }
 
@@ -157,8 +176,8 @@ fn each_error_of_std_is_a_fault(rt: HostRuntime) -> Result<(), Fail> {
 fn writes_to_a_writer_of_std(rt: HostRuntime) -> Result<(), Fail> {
     let mut held: Vec<u8> = Vec::new(rt.alloc());
     let mut sink = StdSink::new(&mut held);
-    assert_eq!(rt; write_whole(&mut sink, b"frame,0\n"), Ok(()));
-    assert_eq!(rt; write_whole(&mut sink, b"end,0\n"), Ok(()));
+    assert!(rt; takes(&mut sink, b"frame,0\n"));
+    assert!(rt; takes(&mut sink, b"end,0\n"));
     assert_eq!(rt; held.as_slice(), b"frame,0\nend,0\n".as_slice());
     Ok(())
 }
@@ -167,7 +186,7 @@ fn writes_to_a_writer_of_std(rt: HostRuntime) -> Result<(), Fail> {
 fn full_writer_of_std_fails(rt: HostRuntime) -> Result<(), Fail> {
     let mut held = [0u8; 4];
     let mut sink = StdSink::new(held.as_mut_slice());
-    assert_eq!(rt; write_whole(&mut sink, b"abcdef"), Err(Failed));
+    assert!(rt; !takes(&mut sink, b"abcdef"));
     assert_eq!(rt; held, *b"abcd");
     Ok(())
 }
@@ -197,15 +216,15 @@ impl Write for Counted {
 
 #[test]
 fn each_write_is_flushed(rt: HostRuntime) -> Result<(), Fail> {
-    for (broken, want) in [(false, Ok(())), (true, Err(Failed))] {
+    for broken in [false, true] {
         let mut output = Counted {
             writes: 0,
             flushes: 0,
             broken,
         };
         let mut sink = StdSink::new(&mut output);
-        assert_eq!(rt; write_whole(&mut sink, b"one"), want);
-        assert_eq!(rt; write_whole(&mut sink, b"two"), want);
+        assert!(rt; takes(&mut sink, b"one") != broken);
+        assert!(rt; takes(&mut sink, b"two") != broken);
         assert_eq!(rt; (output.writes, output.flushes), (2, 2));
     }
     Ok(())

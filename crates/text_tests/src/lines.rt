@@ -1,7 +1,9 @@
 // Lines of every kind, as the format has them.
 ghost use Rattle.frame_text.specs.Printed.{FitsBody};
 
-use crate::texts::{is_same, read_some, written};
+use crate::texts::{
+    has_agents, has_goals, has_posts, has_segments, has_weights, is_same, is_written_as,
+};
 use crowd_data::{Agent, Body, Frame, Goal, Mark, Post, SCRIPT, ScriptPost, Segment};
 use fixed_vec::{List, V2};
 use frame_text::{write_end, write_frame};
@@ -86,63 +88,45 @@ fn marks(rt: HostRuntime) -> Result<(), Fail> {
 fn records_of_a_scenario(rt: HostRuntime) -> Result<(), Fail> {
     let text =
         b"crowd,1\nsteps,5\nagent,-1,2,3,-4,5,6,7,8,9,10,11,12\nsegment,-100,200,300,-400\npost,5,0,-1,2\ngoal,7,0,3,-4,8\n".as_slice();
-    let scenario = read_some(rt.alloc(), text)?;
-    assert_eq!(rt;
-        scenario.agents(),
-        [Agent {
-            pos: V2 { x: -1, y: 2 },
-            vel: V2 { x: 3, y: -4 },
-            pref: V2 { x: 5, y: 6 },
-            radius: 7,
-            speed: 8,
-            range: 9,
-            most: 10,
-            horizon: 11,
-            wall_horizon: 12,
-            weight: 1,
-        }]
-        .as_slice()
-    );
-    assert_eq!(rt;
-        scenario.segments(),
-        [Segment {
-            a: V2 { x: -100, y: 200 },
-            b: V2 { x: 300, y: -400 }
-        }]
-        .as_slice()
-    );
-    assert_eq!(rt;
-        scenario.posts(),
-        [ScriptPost {
-            frame: 5,
-            agent: 0,
-            vel: V2 { x: -1, y: 2 }
-        }]
-        .as_slice()
-    );
-    assert_eq!(rt;
-        scenario.goals(),
-        [Goal {
-            controller: 7,
-            agent: 0,
-            at: V2 { x: 3, y: -4 },
-            pace: 8
-        }]
-        .as_slice()
-    );
-    let out = written(rt.alloc(), &scenario)?;
-    assert!(rt; is_same(out.held(), text));
+    let agent = Agent {
+        pos: V2 { x: -1, y: 2 },
+        vel: V2 { x: 3, y: -4 },
+        pref: V2 { x: 5, y: 6 },
+        radius: 7,
+        speed: 8,
+        range: 9,
+        most: 10,
+        horizon: 11,
+        wall_horizon: 12,
+        weight: 1,
+    };
+    let segment = Segment {
+        a: V2 { x: -100, y: 200 },
+        b: V2 { x: 300, y: -400 },
+    };
+    let post = ScriptPost {
+        frame: 5,
+        agent: 0,
+        vel: V2 { x: -1, y: 2 },
+    };
+    let goal = Goal {
+        controller: 7,
+        agent: 0,
+        at: V2 { x: 3, y: -4 },
+        pace: 8,
+    };
+    assert!(rt; has_agents(rt.alloc(), text, &[agent])?);
+    assert!(rt; has_segments(rt.alloc(), text, &[segment])?);
+    assert!(rt; has_posts(rt.alloc(), text, &[post])?);
+    assert!(rt; has_goals(rt.alloc(), text, &[goal])?);
+    assert!(rt; is_written_as(rt.alloc(), text, text)?);
     Ok(())
 }
 
 #[test]
 fn agent_of_version_2(rt: HostRuntime) -> Result<(), Fail> {
     let text = b"crowd,2\nsteps,0\nagent,-1,2,3,-4,5,6,7,8,9,10,11,12,13\n".as_slice();
-    let scenario = read_some(rt.alloc(), text)?;
-    for agent in scenario.agents() {
-        assert_eq!(rt; agent.weight, 13);
-    }
-    let out = written(rt.alloc(), &scenario)?;
-    assert!(rt; is_same(out.held(), text));
+    assert!(rt; has_weights(rt.alloc(), text, &[13])?);
+    assert!(rt; is_written_as(rt.alloc(), text, text)?);
     Ok(())
 }

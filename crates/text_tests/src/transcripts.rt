@@ -21,33 +21,51 @@ fn fault_of(alloc: Global, bytes: &[u8]) -> Option<TranscriptFault> {
     read(alloc, bytes).err()
 }
 
-fn at(index: u32, cause: TranscriptCause) -> Option<TranscriptFault> {
-    Some(TranscriptFault::At { index, cause })
+// Whether a text is refused at this record for this cause.
+fn is_refused(alloc: Global, bytes: &[u8], index: u32, cause: TranscriptCause) -> bool {
+    fault_of(alloc, bytes) == Some(TranscriptFault::At { index, cause })
+}
+
+// The steps of a transcript, how many frames it has, and how many posts and goals its scenario.
+fn counts_of(alloc: Global, bytes: &[u8]) -> Result<[usize; 4], Fail> {
+    let transcript = read(alloc, bytes)?;
+    Ok([
+        transcript.scenario.steps() as usize,
+        transcript.frames.items().len(),
+        transcript.scenario.posts().len(),
+        transcript.scenario.goals().len(),
+    ])
+}
+
+// How many posts a transcript has in its frame of this number.
+fn taken_in(alloc: Global, bytes: &[u8], number: u32) -> Result<usize, Fail> {
+    for moves in read(alloc, bytes)?.frames.items() {
+        if moves.frame.number == number {
+            return Ok(moves.posts.items().len());
+        }
+    }
+    Ok(0)
+}
+
+// The version and the ring of a transcript.
+fn shape_of(alloc: Global, bytes: &[u8]) -> Result<[u32; 2], Fail> {
+    let transcript = read(alloc, bytes)?;
+    Ok([transcript.scenario.version(), transcript.scenario.ring()])
 }
 
 #[test]
 fn one_step(rt: HostRuntime) -> Result<(), Fail> {
-    let transcript = read(rt.alloc(), ONE_STEP)?;
-    assert_eq!(rt; transcript.scenario.steps(), 1);
-    assert_eq!(rt; transcript.frames.items().len(), 2);
+    assert_eq!(rt; counts_of(rt.alloc(), ONE_STEP)?, [1, 2, 0, 0]);
     Ok(())
 }
 
 #[test]
 fn posts_taken_into_a_frame(rt: HostRuntime) -> Result<(), Fail> {
-    let transcript = read(
-        rt.alloc(),
-        b"crowd,1\nsteps,1\nagent,0,0,0,0,0,0,500,400,15000,10,10,4\npost,1,0,100,0\npost,1,0,0,100\ngoal,0,0,1,2,3\nframe,0\nbody,0,0,0,0,0,0,0,start,0\nframe,1\ntake,16,0,0,100,0\ntake,16,4294967295,0,0,100\nbody,0,0,100,0,100,0,100,feasible,0\nend,1\n",
-    )?;
-    assert_eq!(rt; transcript.scenario.posts().len(), 2);
-    assert_eq!(rt; transcript.scenario.goals().len(), 1);
-    for moves in transcript.frames.items() {
-        if moves.frame.number == 1 {
-            assert_eq!(rt; moves.posts.items().len(), 2);
-        } else {
-            assert!(rt; moves.posts.items().is_empty());
-        }
-    }
+    let text: &[u8] =
+        b"crowd,1\nsteps,1\nagent,0,0,0,0,0,0,500,400,15000,10,10,4\npost,1,0,100,0\npost,1,0,0,100\ngoal,0,0,1,2,3\nframe,0\nbody,0,0,0,0,0,0,0,start,0\nframe,1\ntake,16,0,0,100,0\ntake,16,4294967295,0,0,100\nbody,0,0,100,0,100,0,100,feasible,0\nend,1\n";
+    assert_eq!(rt; counts_of(rt.alloc(), text)?, [1, 2, 2, 1]);
+    assert_eq!(rt; taken_in(rt.alloc(), text, 0)?, 0);
+    assert_eq!(rt; taken_in(rt.alloc(), text, 1)?, 2);
     Ok(())
 }
 
@@ -63,78 +81,67 @@ fn cut_at_every_byte(rt: HostRuntime) {
 
 #[test]
 fn takes_out_of_place(rt: HostRuntime) {
-    assert_eq!(rt;
-        fault_of(
+    assert!(rt;
+        is_refused(
             rt.alloc(),
-            b"crowd,1\nsteps,1\nagent,0,0,0,0,0,0,500,400,15000,10,10,4\nframe,0\nbody,0,0,0,0,0,0,0,start,0\nframe,1\nbody,0,0,100,0,100,0,100,feasible,0\ntake,16,0,0,100,0\nend,1\n"
-        ),
-        at(7, TranscriptCause::Shape)
+            b"crowd,1\nsteps,1\nagent,0,0,0,0,0,0,500,400,15000,10,10,4\nframe,0\nbody,0,0,0,0,0,0,0,start,0\nframe,1\nbody,0,0,100,0,100,0,100,feasible,0\ntake,16,0,0,100,0\nend,1\n",
+            7,
+            TranscriptCause::Shape
+        )
     );
-    assert_eq!(rt;
-        fault_of(
+    assert!(rt;
+        is_refused(
             rt.alloc(),
-            b"crowd,1\nsteps,1\nagent,0,0,0,0,0,0,500,400,15000,10,10,4\nframe,0\nbody,0,0,0,0,0,0,0,start,0\nframe,1\ntake,16,4294967296,0,100,0\nbody,0,0,100,0,100,0,100,feasible,0\nend,1\n"
-        ),
-        at(6, TranscriptCause::Shape)
+            b"crowd,1\nsteps,1\nagent,0,0,0,0,0,0,500,400,15000,10,10,4\nframe,0\nbody,0,0,0,0,0,0,0,start,0\nframe,1\ntake,16,4294967296,0,100,0\nbody,0,0,100,0,100,0,100,feasible,0\nend,1\n",
+            6,
+            TranscriptCause::Shape
+        )
     );
 }
 
 #[test]
 fn first_causes(rt: HostRuntime) -> Result<(), Fail> {
     let scenario = b"crowd,1\nsteps,1\nagent,0,0,0,0,300,0,500,400,15000,0,10,4\n".as_slice();
-    assert_eq!(rt;
-        fault_of(rt.alloc(), scenario),
-        at(3, TranscriptCause::Shape)
-    );
-    assert_eq!(rt;
-        fault_of(rt.alloc(), b"crowd,3\n".as_slice()),
-        at(0, TranscriptCause::Scenario(Cause::NoHeader))
+    assert!(rt; is_refused(rt.alloc(), scenario, 3, TranscriptCause::Shape));
+    assert!(rt;
+        is_refused(
+            rt.alloc(),
+            b"crowd,3\n".as_slice(),
+            0,
+            TranscriptCause::Scenario(Cause::NoHeader)
+        )
     );
     let cut =
         b"crowd,1\nsteps,1\nagent,0,0,0,0,300,0,500,400,15000,0,10,4\nframe,0\nbody,0,0,0,0,0,300,0,start,0\nframe,1\n".as_slice();
-    assert_eq!(rt; fault_of(rt.alloc(), cut), at(6, TranscriptCause::Shape));
+    assert!(rt; is_refused(rt.alloc(), cut, 6, TranscriptCause::Shape));
     let spelt =
         b"crowd,1\nsteps,1\nagent,0,0,0,0,300,0,500,400,15000,0,10,4\nframe,0\nbody,0,0,0,0,0,300,0,start,0\nframe,1\nbody,0,300,0,300,0,300,0,feasible,00\nend,1\n".as_slice();
-    assert_eq!(rt;
-        fault_of(rt.alloc(), spelt),
-        at(6, TranscriptCause::Spelling)
-    );
+    assert!(rt; is_refused(rt.alloc(), spelt, 6, TranscriptCause::Spelling));
     let behind_end = b"crowd,1\nsteps,0\nframe,0\nend,0\nend,0\n".as_slice();
-    assert_eq!(rt;
-        fault_of(rt.alloc(), behind_end),
-        at(3, TranscriptCause::Shape)
-    );
+    assert!(rt; is_refused(rt.alloc(), behind_end, 3, TranscriptCause::Shape));
     let marked = b"\xEF\xBB\xBFcrowd,1\nsteps,0\nframe,0\nend,0\n".as_slice();
-    assert_eq!(rt;
-        fault_of(rt.alloc(), marked),
-        at(0, TranscriptCause::Spelling)
-    );
+    assert!(rt; is_refused(rt.alloc(), marked, 0, TranscriptCause::Spelling));
     let blank = b"crowd,1\nsteps,0\nframe,0\nend,0\n\n".as_slice();
-    assert_eq!(rt;
-        fault_of(rt.alloc(), blank),
-        at(4, TranscriptCause::Spelling)
-    );
+    assert!(rt; is_refused(rt.alloc(), blank, 4, TranscriptCause::Spelling));
     let take_in_0 =
         b"crowd,1\nsteps,1\nagent,0,0,0,0,300,0,500,400,15000,0,10,4\nframe,0\ntake,16,0,0,1,1\n".as_slice();
-    assert_eq!(rt;
-        fault_of(rt.alloc(), take_in_0),
-        at(4, TranscriptCause::Shape)
-    );
+    assert!(rt; is_refused(rt.alloc(), take_in_0, 4, TranscriptCause::Shape));
     Ok(())
 }
 
 #[test]
 fn version_2(rt: HostRuntime) -> Result<(), Fail> {
-    let transcript = read(
-        rt.alloc(),
-        b"crowd,2\nsteps,1\nring,60\nagent,0,0,0,0,3230,360,500,326,15000,10,10,4,1\nframe,0\nbody,0,0,0,0,0,3230,360,start,0\nframe,1\nbody,0,323,36,323,36,3230,360,feasible,0\nend,1\n",
-    )?;
-    assert_eq!(rt; transcript.scenario.version(), 2);
-    assert_eq!(rt; transcript.scenario.ring(), 60);
+    let text: &[u8] =
+        b"crowd,2\nsteps,1\nring,60\nagent,0,0,0,0,3230,360,500,326,15000,10,10,4,1\nframe,0\nbody,0,0,0,0,0,3230,360,start,0\nframe,1\nbody,0,323,36,323,36,3230,360,feasible,0\nend,1\n";
+    assert_eq!(rt; shape_of(rt.alloc(), text)?, [2, 60]);
     // the plain ring isn't printed
-    assert_eq!(rt;
-        fault_of(rt.alloc(), b"crowd,2\nsteps,0\nring,36\nframe,0\nend,0\n"),
-        at(2, TranscriptCause::Spelling)
+    assert!(rt;
+        is_refused(
+            rt.alloc(),
+            b"crowd,2\nsteps,0\nring,36\nframe,0\nend,0\n",
+            2,
+            TranscriptCause::Spelling
+        )
     );
     Ok(())
 }

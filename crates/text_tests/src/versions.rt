@@ -1,42 +1,30 @@
 // Scenarios of version 2, and inputs that stand for none because of what is new in it.
-use crate::texts::{at, fault_of, read_some};
+use crate::texts::{has_weights, head_of, is_refused};
 use scenario_read::Cause;
 use std::test::Fail;
 
 #[test]
 fn reads_weights(rt: HostRuntime) -> Result<(), Fail> {
-    let scenario = read_some(
-        rt.alloc(),
-        b"crowd,2\nsteps,1\nagent,0,0,0,0,0,0,500,800,15000,10,10,4,3\nagent,0,0,0,0,0,0,500,800,15000,10,10,4,16\n",
-    )?;
-    assert_eq!(rt; scenario.version(), 2);
-    assert_eq!(rt; scenario.ring(), 36);
-    let [first, second] = scenario.agents() else {
-        return Ok(assert!(rt; false));
-    };
-    assert_eq!(rt; first.weight, 3);
-    assert_eq!(rt; second.weight, 16);
+    let text: &[u8] =
+        b"crowd,2\nsteps,1\nagent,0,0,0,0,0,0,500,800,15000,10,10,4,3\nagent,0,0,0,0,0,0,500,800,15000,10,10,4,16\n";
+    assert_eq!(rt; head_of(rt.alloc(), text)?, [2, 36, 1]);
+    assert!(rt; has_weights(rt.alloc(), text, &[3, 16])?);
     Ok(())
 }
 
 #[test]
 fn version_1_has_weights_of_1(rt: HostRuntime) -> Result<(), Fail> {
     let alloc = rt.alloc();
-    let scenario = read_some(
-        alloc,
-        b"crowd,1\nsteps,1\nagent,0,0,0,0,0,0,500,800,15000,10,10,4\n",
-    )?;
-    assert_eq!(rt; scenario.version(), 1);
-    assert_eq!(rt; scenario.ring(), 36);
-    for agent in scenario.agents() {
-        assert_eq!(rt; agent.weight, 1);
-    }
-    assert_eq!(rt;
-        fault_of(
+    let text: &[u8] = b"crowd,1\nsteps,1\nagent,0,0,0,0,0,0,500,800,15000,10,10,4\n";
+    assert_eq!(rt; head_of(alloc, text)?, [1, 36, 1]);
+    assert!(rt; has_weights(alloc, text, &[1])?);
+    assert!(rt;
+        is_refused(
             alloc,
-            b"crowd,1\nsteps,1\nagent,0,0,0,0,0,0,500,800,15000,10,10,4,1\n"
-        ),
-        at(2, Cause::FieldCount)
+            b"crowd,1\nsteps,1\nagent,0,0,0,0,0,0,500,800,15000,10,10,4,1\n",
+            2,
+            Cause::FieldCount
+        )
     );
     Ok(())
 }
@@ -44,72 +32,80 @@ fn version_1_has_weights_of_1(rt: HostRuntime) -> Result<(), Fail> {
 #[test]
 fn keeps_the_limits_of_a_weight(rt: HostRuntime) {
     let alloc = rt.alloc();
-    assert_eq!(rt;
-        fault_of(
+    assert!(rt;
+        is_refused(
             alloc,
-            b"crowd,2\nsteps,1\nagent,0,0,0,0,0,0,500,800,15000,10,10,4,17\n"
-        ),
-        at(2, Cause::OutOfRange { field: 13 })
+            b"crowd,2\nsteps,1\nagent,0,0,0,0,0,0,500,800,15000,10,10,4,17\n",
+            2,
+            Cause::OutOfRange { field: 13 }
+        )
     );
-    assert_eq!(rt;
-        fault_of(
+    assert!(rt;
+        is_refused(
             alloc,
-            b"crowd,2\nsteps,1\nagent,0,0,0,0,0,0,500,800,15000,10,10,4,0\n"
-        ),
-        at(2, Cause::OutOfRange { field: 13 })
+            b"crowd,2\nsteps,1\nagent,0,0,0,0,0,0,500,800,15000,10,10,4,0\n",
+            2,
+            Cause::OutOfRange { field: 13 }
+        )
     );
-    assert_eq!(rt;
-        fault_of(
+    assert!(rt;
+        is_refused(
             alloc,
-            b"crowd,2\nsteps,1\nagent,0,0,0,0,0,0,500,800,15000,10,10,4\n"
-        ),
-        at(2, Cause::FieldCount)
+            b"crowd,2\nsteps,1\nagent,0,0,0,0,0,0,500,800,15000,10,10,4\n",
+            2,
+            Cause::FieldCount
+        )
     );
-    assert_eq!(rt;
-        fault_of(alloc, b"crowd,3\nsteps,1\n"),
-        at(0, Cause::NoHeader)
-    );
-    assert_eq!(rt;
-        fault_of(alloc, b"crowd,02\nsteps,1\n"),
-        at(0, Cause::NoHeader)
-    );
+    assert!(rt; is_refused(alloc, b"crowd,3\nsteps,1\n", 0, Cause::NoHeader));
+    assert!(rt; is_refused(alloc, b"crowd,02\nsteps,1\n", 0, Cause::NoHeader));
 }
 
 #[test]
 fn reads_the_ring(rt: HostRuntime) -> Result<(), Fail> {
     let alloc = rt.alloc();
-    let fine = read_some(alloc, b"crowd,2\nring,60\nsteps,1\n")?;
-    assert_eq!(rt; fine.ring(), 60);
-    let plain = read_some(alloc, b"crowd,2\nsteps,1\nring,036\n")?;
-    assert_eq!(rt; plain.ring(), 36);
+    assert_eq!(rt; head_of(alloc, b"crowd,2\nring,60\nsteps,1\n")?, [2, 60, 1]);
+    assert_eq!(rt;
+        head_of(alloc, b"crowd,2\nsteps,1\nring,036\n")?,
+        [2, 36, 1]
+    );
     Ok(())
 }
 
 #[test]
 fn names_the_first_cause_of_a_ring(rt: HostRuntime) {
     let alloc = rt.alloc();
-    assert_eq!(rt;
-        fault_of(alloc, b"crowd,2\nsteps,1\nring,60\nring,60\n"),
-        at(3, Cause::RingTwice)
+    assert!(rt;
+        is_refused(
+            alloc,
+            b"crowd,2\nsteps,1\nring,60\nring,60\n",
+            3,
+            Cause::RingTwice
+        )
     );
-    assert_eq!(rt;
-        fault_of(alloc, b"crowd,2\nsteps,1\nring,48\n"),
-        at(2, Cause::OutOfRange { field: 1 })
+    assert!(rt;
+        is_refused(
+            alloc,
+            b"crowd,2\nsteps,1\nring,48\n",
+            2,
+            Cause::OutOfRange { field: 1 }
+        )
     );
-    assert_eq!(rt;
-        fault_of(alloc, b"crowd,2\nsteps,1\nring,60\nring,61\n"),
-        at(3, Cause::OutOfRange { field: 1 })
+    assert!(rt;
+        is_refused(
+            alloc,
+            b"crowd,2\nsteps,1\nring,60\nring,61\n",
+            3,
+            Cause::OutOfRange { field: 1 }
+        )
     );
-    assert_eq!(rt;
-        fault_of(alloc, b"crowd,2\nsteps,1\nring,x\n"),
-        at(2, Cause::NotANumber { field: 1 })
+    assert!(rt;
+        is_refused(
+            alloc,
+            b"crowd,2\nsteps,1\nring,x\n",
+            2,
+            Cause::NotANumber { field: 1 }
+        )
     );
-    assert_eq!(rt;
-        fault_of(alloc, b"crowd,2\nsteps,1\nring\n"),
-        at(2, Cause::FieldCount)
-    );
-    assert_eq!(rt;
-        fault_of(alloc, b"crowd,1\nsteps,1\nring,60\n"),
-        at(2, Cause::UnknownKind)
-    );
+    assert!(rt; is_refused(alloc, b"crowd,2\nsteps,1\nring\n", 2, Cause::FieldCount));
+    assert!(rt; is_refused(alloc, b"crowd,1\nsteps,1\nring,60\n", 2, Cause::UnknownKind));
 }

@@ -20,21 +20,25 @@ fn refuses_in_order_and_takes_once(rt: HostRuntime) -> Result<(), Fail> {
     let mut into = List::with_room(rt.alloc(), 2 * MOST_TAKEN)?;
     let (posts, mut posters, mut taker) = open(rt.alloc(), 1, 2, 1)?;
     let poster = &mut posters[0];
-    let first = poster.post(&rt, &posts, 2, along(16_385));
-    assert_eq!(rt; first, Err(PostFault::BadAgent));
-    let second = poster.post(&rt, &posts, 1, along(16_385));
-    assert_eq!(rt; second, Err(PostFault::BadVelocity));
-    let third = poster.post(&rt, &posts, 1, along(5));
-    assert_eq!(rt;
-        third,
-        Ok(Receipt {
-            controller: 0,
-            seq: 0
-        })
-    );
-    let fourth = poster.post(&rt, &posts, 1, along(5));
-    assert_eq!(rt; fourth, Err(PostFault::TooManyPosts));
-    assert_eq!(rt; taker.take(&rt, &posts, &mut into), Taken::Emptied);
+    let beyond = poster.post(&rt, &posts, 2, along(16_385));
+    let fast = poster.post(&rt, &posts, 1, along(16_385));
+    let good = poster.post(&rt, &posts, 1, along(5));
+    let more = poster.post(&rt, &posts, 1, along(5));
+    let first = taker.take(&rt, &posts, &mut into);
+    let count = into.items().len();
+    let second = taker.take(&rt, &posts, &mut into);
+    let left = finish(&rt, rt.alloc(), posts, posters, taker)?
+        .items()
+        .len();
+    assert_eq!(rt; beyond, Err(PostFault::BadAgent));
+    assert_eq!(rt; fast, Err(PostFault::BadVelocity));
+    let receipt = Receipt {
+        controller: 0,
+        seq: 0,
+    };
+    assert_eq!(rt; good, Ok(receipt));
+    assert_eq!(rt; more, Err(PostFault::TooManyPosts));
+    assert_eq!(rt; (first, second), (Taken::Emptied, Taken::Emptied));
     let post = Post {
         controller: 0,
         seq: 0,
@@ -42,10 +46,7 @@ fn refuses_in_order_and_takes_once(rt: HostRuntime) -> Result<(), Fail> {
         vel: along(5),
     };
     assert_eq!(rt; into.items(), [post].as_slice());
-    assert_eq!(rt; taker.take(&rt, &posts, &mut into), Taken::Emptied);
-    assert_eq!(rt; into.items().len(), 1);
-    let left = finish(&rt, rt.alloc(), posts, posters, taker)?;
-    assert_eq!(rt; left.items().len(), 0);
+    assert_eq!(rt; (count, left), (1, 0));
     Ok(())
 }
 

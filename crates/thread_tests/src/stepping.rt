@@ -71,21 +71,32 @@ fn stand_at(frame: &Frame, first: V2, second: V2, mark: Mark) -> bool {
         && bodies[1].mark == mark
 }
 
+// Whether the two agents stand at these places after so many steps, both with this mark.
+fn stand_after<R: Threads + Sync>(
+    rt: &R,
+    alloc: Global,
+    steps: u32,
+    first: V2,
+    second: V2,
+    mark: Mark,
+) -> Result<bool, Fail> {
+    let mut stepper = opened(alloc)?;
+    for _ in 0..steps {
+        if !make_step(rt, &mut stepper) {
+            return Ok(false);
+        }
+    }
+    Ok(stand_at(stepper.frame(), first, second, mark))
+}
+
 #[test]
 fn each_step_is_made_from_one_frame(rt: HostRuntime) -> Result<(), Fail> {
+    let alloc = rt.alloc();
     let second = V2 { x: 1800, y: 0 };
-    let mut stepper = opened(rt.alloc())?;
-    assert!(rt; make_step(&rt, &mut stepper));
-    assert!(rt; stand_at(stepper.frame(), V2 { x: -300, y: 0 }, second, Mark::Crowded));
-    assert!(rt; make_step(&rt, &mut stepper));
-    assert!(rt;
-        stand_at(
-            stepper.frame(),
-            V2 { x: -600, y: 0 },
-            second,
-            Mark::Feasible
-        )
-    );
+    let once = V2 { x: -300, y: 0 };
+    let twice = V2 { x: -600, y: 0 };
+    assert!(rt; stand_after(&rt, alloc, 1, once, second, Mark::Crowded)?);
+    assert!(rt; stand_after(&rt, alloc, 2, twice, second, Mark::Feasible)?);
     Ok(())
 }
 
@@ -171,6 +182,22 @@ fn any_number_of_workers_makes_the_same_frames(rt: HostRuntime) -> Result<(), Fa
     Ok(())
 }
 
+// Whether a row makes a step with this gate.
+fn steps_with<R: Threads + Sync, G: Gate + Sync>(
+    rt: &R,
+    alloc: Global,
+    count: u32,
+    workers: u32,
+    gate: &G,
+) -> Result<bool, NoMemory>
+    requires count { count ≤ 1000 }
+    requires some_workers { 1 ≤ workers }
+    requires workers { workers ≤ 64 }
+{
+    let mut stepper = opened_row(alloc, count, workers)?;
+    Ok(make_gated_step(rt, &mut stepper, gate))
+}
+
 // Holds the worker of piece 0 until the three other pieces have come, and those of the others until it has.
 #[derive(Drop)]
 struct Meeting {
@@ -199,13 +226,12 @@ impl Gate for Meeting {
 
 #[test]
 fn workers_run_beside_each_other(rt: HostRuntime) -> Result<(), Fail> {
-    let mut stepper = opened_row(rt.alloc(), 128, 2)?;
     let gate = Meeting {
         first: AtomicU64::new(0),
         others: AtomicU64::new(0),
         seen: AtomicU64::new(0),
     };
-    assert!(rt; make_gated_step(&rt, &mut stepper, &gate));
+    assert!(rt; steps_with(&rt, rt.alloc(), 128, 2, &gate)?);
     assert_eq!(rt; gate.seen.load(Ordering::SeqCst), 4);
     Ok(())
 }
@@ -226,11 +252,10 @@ impl Gate for InOrder {
 
 #[test]
 fn one_worker_passes_the_gate_before_each_piece(rt: HostRuntime) -> Result<(), Fail> {
-    let mut stepper = opened_row(rt.alloc(), 65, 1)?;
     let gate = InOrder {
         next: AtomicU64::new(0),
     };
-    assert!(rt; make_gated_step(&rt, &mut stepper, &gate));
+    assert!(rt; steps_with(&rt, rt.alloc(), 65, 1, &gate)?);
     assert_eq!(rt; gate.next.load(Ordering::SeqCst), 3);
     Ok(())
 }

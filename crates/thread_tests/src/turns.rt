@@ -4,6 +4,7 @@ ghost use Rattle.crowd_data.specs.Limits.{IsAgent, IsGoal, IsPosition};
 ghost use Rattle.crowd_data.specs.Run.{start_of};
 ghost use Rattle.crowd_data.specs.Scenario.{IsValid};
 ghost use Rattle.post_box.specs.Ends.{IsPosterOf};
+ghost use Rattle.post_box.specs.declared.limits.TheConstants.{MOST_TAKEN};
 ghost use Rattle.published_frames.specs.History.{last_of};
 ghost use Rattle.published_frames.specs.Names.{reader_source, writer_history, writer_source};
 ghost use Rattle.controller_turns.specs.Controllers.{Suits};
@@ -140,13 +141,25 @@ impl Gate for LastPass {
     }
 }
 
-#[test]
-fn posts_for_each_goal_in_order(rt: HostRuntime) -> Result<(), Fail> {
-    let mut into = List::with_room(rt.alloc(), MOST_TAKEN)?;
-    let scenario = two_agents(rt.alloc())?;
-    let frame = first_frame(rt.alloc(), &scenario)?;
-    let mut controller = Controller::of(1, two_goals(rt.alloc())?);
-    let (posts, mut posters, mut taker) = post_box::open(rt.alloc(), 2, 2, 2)?;
+// What came of a turn: who was at the gate before it, with which turn, and which turn was at it after that; whether it was
+// done; what the taker answered; and how many posts were left.
+#[derive(Clone, Copy)]
+struct Turned {
+    before: (u64, u64),
+    after: u64,
+    is_done: bool,
+    taken: Taken,
+    left: usize,
+}
+
+// A turn of the controller of two goals in frame 0, whose posts are taken into the list.
+fn turn_once<R: Wait>(rt: &R, alloc: Global, into: &mut List<Post>) -> Result<Turned, NoMemory>
+    requires { MOST_TAKEN ≤ into.old.spare }
+{
+    let scenario = two_agents(alloc)?;
+    let frame = first_frame(alloc, &scenario)?;
+    let mut controller = Controller::of(1, two_goals(alloc)?);
+    let (posts, mut posters, mut taker) = post_box::open(alloc, 2, 2, 2)?;
     let gate = LastPass {
         who: AtomicU64::new(9),
         turn: AtomicU64::new(9),
@@ -156,16 +169,29 @@ fn posts_for_each_goal_in_order(rt: HostRuntime) -> Result<(), Fail> {
         gate.who.load(Ordering::SeqCst),
         gate.turn.load(Ordering::SeqCst),
     );
-    let done = controller.turn(&rt, &frame, &mut posters[1], &posts);
+    let done = controller.turn(rt, &frame, &mut posters[1], &posts);
     controller.pass(&gate);
     let after = gate.turn.load(Ordering::SeqCst);
-    let taken = taker.take(&rt, &posts, &mut into);
-    let left = finish(&rt, rt.alloc(), posts, posters, taker)?;
-    assert_eq!(rt; (before, after), ((1, 0), 1));
-    assert_eq!(rt; done, Ok(()));
-    assert_eq!(rt; taken, Taken::Emptied);
+    let taken = taker.take(rt, &posts, into);
+    let left = finish(rt, alloc, posts, posters, taker)?.items().len();
+    Ok(Turned {
+        before,
+        after,
+        is_done: done.is_ok(),
+        taken,
+        left,
+    })
+}
+
+#[test]
+fn posts_for_each_goal_in_order(rt: HostRuntime) -> Result<(), Fail> {
+    let mut into = List::with_room(rt.alloc(), MOST_TAKEN)?;
+    let turned = turn_once(&rt, rt.alloc(), &mut into)?;
+    assert_eq!(rt; (turned.before, turned.after), ((1, 0), 1));
+    assert!(rt; turned.is_done);
+    assert_eq!(rt; turned.taken, Taken::Emptied);
     assert_eq!(rt; into.items(), two_posts().as_slice());
-    assert_eq!(rt; left.items().len(), 0);
+    assert_eq!(rt; turned.left, 0);
     Ok(())
 }
 

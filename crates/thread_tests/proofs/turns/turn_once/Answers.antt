@@ -6,7 +6,7 @@ use Rattle.crowd_data.proofs.Frames.{start_present}
 use Rattle.post_box.specs.Ends.{PosterState}
 use Rattle.controller_turns.specs.Controllers.{CanTurn, ControllerState}
 use Rattle.controller_turns.proofs.Posters.{present_can_turn}
-use Rattle.thread_tests.proofs.turns.posts_for_each_goal_in_order.Goals as goal
+use Rattle.thread_tests.proofs.turns.turn_once.Goals as goal
 
 pub turn-done-requires-clause-frame : goal.turn-done-requires-clause-frame
 turn-done-requires-clause-frame g c =
