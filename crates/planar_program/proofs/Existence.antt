@@ -15,7 +15,8 @@ use Rattle.planar_line.specs.Span.{Stretch, IsStretch, IsOnStretch, IsPart}
 use Rattle.planar_line.proofs.Toward.{weak, no_farther}
 use Rattle.planar_line.proofs.Border.{height, zero_nonneg}
 use Rattle.planar_line.proofs.Stretch.{some_by, none_by, raised, raised-same, raised-none, raised-stretch, raised-exact, lowered, lowered-same, lowered-none, lowered-stretch, lowered-exact, level-same, level-none, low-best, high-best, foot-best}
-use Rattle.planar_program.proofs.Steps.{IsBest, kept, moved, emptied, start-toward}
+use Rattle.planar_program.specs.Taken.{IsBest}
+use Rattle.planar_program.proofs.Steps.{kept, moved, emptied, start-toward}
 use Rattle.planar_program.proofs.Places.{convex-meeting}
 use Rattle.planar_program.proofs.OneValue.{square_zero}
 

@@ -10,6 +10,7 @@ use Rattle.fixed_vec.specs.Point.{Rational, IsPoint, IsIn, whole}
 use Rattle.planar_line.specs.Border.{IsOnBorder, toward}
 use Rattle.planar_line.proofs.Toward.{weak, turned}
 use Rattle.planar_line.proofs.Border.{height, in-border}
+use Rattle.planar_program.specs.Taken.{IsBest}
 
 -- a point between v and o
 abbrev pub between : ℤ → ℤ → Rational → Rational → Rational
@@ -44,10 +45,9 @@ pub record IsConvex (A : Rational → Type 0) : Type 0 where
   pub point : (p : Rational) → A p → IsPoint p
   pub between : (α β : ℤ) (v o : Rational) → pos 0 ≤ℤ α → pos 0 <ℤ β → A v → A o → A (between α β v o)
 
--- p is one of them, and no other lies on the side of pref
-pub record IsBest (A : Rational → Type 0) (pref : V2) (p : Rational) : Type 0 where
-  pub inside : A p
-  pub toward : (v : Rational) → A v → toward pref p v ≤ℤ pos 0
+-- what is best of a set is best of any set with the same points
+pub same_best : (A B : Rational → Type 0) (pref : V2) (p : Rational) → ((v : Rational) → A v ↔ B v) → IsBest A pref p → IsBest B pref p
+same_best A B pref p same best = record { inside = (same p).0 best.inside; toward = λ v b. best.toward v ((same v).1 b) }
 
 -- B has the points of A that are in h
 module _ (A B : Rational → Type 0) (h : Plane) (part : (p : Rational) → B p ↔ (A p × IsIn h p)) where

@@ -3,7 +3,7 @@ use Rattle.std.specs.Prelude.{ℕ, List, slice_index_or, pos, ◌≤ℤ◌}
 use Rattle.std.specs.List.{slice_range}
 use Rattle.fixed_vec.specs.declared.vector.V2.{V2}
 use Rattle.fixed_vec.specs.HalfPlane.{Plane}
-use Rattle.fixed_vec.specs.Point.{Rational}
+use Rattle.fixed_vec.specs.Point.{Rational, IsIn}
 use Rattle.fixed_vec.specs.Meeting.{Meeting}
 use Rattle.planar_line.specs.Border.{IsOnBorder, toward}
 use Rattle.planar_line.specs.Relief.{no_plane}
@@ -20,7 +20,12 @@ pub record IsOnTaken (planes : List Plane) (place hard head head_end soft_end ha
   pub on : IsOnBorder (slice_index_or planes place no_plane) p
   pub taken : IsTaken planes hard head head_end soft_end hard_end p
 
--- p is such a point, and no other lies on the side of pref
-pub record BestOnBorder (planes : List Plane) (place hard head head_end soft_end hard_end : ℕ) (pref : V2) (p : Rational) : Type 0 where
-  pub point : IsOnTaken planes place hard head head_end soft_end hard_end p
-  pub toward : (v : Rational) → IsOnTaken planes place hard head head_end soft_end hard_end v → toward pref p v ≤ℤ pos 0
+-- p is in each half-plane taken, and in the one at a place
+pub record IsTakenWith (planes : List Plane) (place hard head head_end soft_end hard_end : ℕ) (p : Rational) : Type 0 where
+  pub taken : IsTaken planes hard head head_end soft_end hard_end p
+  pub inside : IsIn (slice_index_or planes place no_plane) p
+
+-- p is one of a set of points, and no other lies on the side of pref
+pub record IsBest (A : Rational → Type 0) (pref : V2) (p : Rational) : Type 0 where
+  pub inside : A p
+  pub toward : (v : Rational) → A v → toward pref p v ≤ℤ pos 0

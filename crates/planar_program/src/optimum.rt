@@ -4,7 +4,7 @@ ghost use Rattle.fixed_vec.specs.Meeting.{IsEmpty, Meeting, Nearest, relieved_af
 ghost use Rattle.fixed_vec.specs.Point.{Rational};
 ghost use Rattle.planar_line.specs.Border.{IsPreference, toward};
 ghost use Rattle.planar_line.specs.Relief.{KeepBounds};
-ghost use Rattle.planar_program.specs.Taken.{BestOnBorder, IsOnTaken};
+ghost use Rattle.planar_program.specs.Taken.{IsBest, IsOnTaken, IsTaken, IsTakenWith};
 
 use fixed_vec::{HalfPlane, Point, V2};
 use planar_line::{Conflict, Probe, Span, contains_at, plane_at};
@@ -52,7 +52,7 @@ fn best_on_border(
     requires pref { IsPreference pref }
     requires bounds { KeepBounds hard relief planes.now }
     ensures best { IfOk result
-        (BestOnBorder (relieved_after hard relief planes.now) place hard head head_end soft_end hard_end pref) }
+        (IsBest (IsOnTaken (relieved_after hard relief planes.now) place hard head head_end soft_end hard_end) pref) }
     ensures none { IfErr result
         (λ _. (v : Rational)
         → IsOnTaken (relieved_after hard relief planes.now) place hard head head_end soft_end hard_end v → ⊥) }
@@ -63,6 +63,46 @@ fn best_on_border(
     span.narrow(planes, hard, relief, hard, soft_end)?;
     span.narrow(planes, hard, relief, 0, hard_end)?;
     Ok(Probe::of(&span.nearest(pref)))
+}
+
+// Takes in the half-plane at `place`: moves `best` to the best point among those that are in it too.
+#[inline(always)]
+fn take_in(
+    planes: &[HalfPlane],
+    hard: usize,
+    relief: u32,
+    place: usize,
+    head: usize,
+    head_end: usize,
+    soft_end: usize,
+    hard_end: usize,
+    pref: V2,
+    best: &mut Probe,
+) -> Result<(), Conflict>
+    requires place { place < length planes.now }
+    requires hard { hard ≤ length planes.now }
+    requires head { head ≤ head_end }
+    requires head_end { head_end ≤ length planes.now }
+    requires soft_start { hard ≤ soft_end }
+    requires soft_end { soft_end ≤ length planes.now }
+    requires hard_end { hard_end ≤ length planes.now }
+    requires pref { IsPreference pref }
+    requires bounds { KeepBounds hard relief planes.now }
+    requires best { IsBest (IsTaken (relieved_after hard relief planes.now) hard head head_end soft_end hard_end) pref
+        best.old }
+    ensures best { IfOk result
+        (λ _. IsBest (IsTakenWith (relieved_after hard relief planes.now) place hard head head_end soft_end hard_end)
+        pref best.new) }
+    ensures none { IfErr result
+        (λ _. (v : Rational)
+        → IsTakenWith (relieved_after hard relief planes.now) place hard head head_end soft_end hard_end v → ⊥) }
+{
+    if !contains_at(planes, hard, relief, place, best) {
+        *best = best_on_border(
+            planes, hard, relief, place, head, head_end, soft_end, hard_end, pref,
+        )?;
+    }
+    Ok(())
 }
 
 /// The point nearest to `pref` among those in each half-plane of the list, or the places of half-planes that
@@ -92,21 +132,19 @@ pub(crate) fn optimum(
     let head = farthest_out(planes, hard, pref);
     let head_end = hard.min(head + 1);
     for place in head..head_end {
-        if !contains_at(planes, hard, relief, place, &best) {
-            best = best_on_border(planes, hard, relief, place, head, place, hard, 0, pref)?;
-        }
+        take_in(
+            planes, hard, relief, place, head, place, hard, 0, pref, &mut best,
+        )?;
     }
     for place in hard..count {
-        if !contains_at(planes, hard, relief, place, &best) {
-            best = best_on_border(planes, hard, relief, place, head, head_end, place, 0, pref)?;
-        }
+        take_in(
+            planes, hard, relief, place, head, head_end, place, 0, pref, &mut best,
+        )?;
     }
     for place in 0..hard {
-        if !contains_at(planes, hard, relief, place, &best) {
-            best = best_on_border(
-                planes, hard, relief, place, head, head_end, count, place, pref,
-            )?;
-        }
+        take_in(
+            planes, hard, relief, place, head, head_end, count, place, pref, &mut best,
+        )?;
     }
     Ok(best.point())
 }

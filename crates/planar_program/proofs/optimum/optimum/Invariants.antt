@@ -1,7 +1,6 @@
 use Rattle.std.proofs.Common.{length}
 use Rattle.fixed_vec.specs.Meeting.{relieved_after}
-use Rattle.planar_program.specs.Taken.{IsTaken}
-use Rattle.planar_program.proofs.Steps.{IsBest}
+use Rattle.planar_program.specs.Taken.{IsTaken, IsBest}
 use Rattle.planar_program.proofs.optimum.optimum.Given as goal
 
 abbrev pub invariant-loop-place : goal.invariant-loop-place
