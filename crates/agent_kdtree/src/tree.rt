@@ -79,6 +79,18 @@ impl Tree {
         })
     }
 
+    /// A tree that stands for these places. `NoMemory` comes only where memory runs out (documented, not
+    /// proved).
+    pub fn over(alloc: Global, places: &[Place]) -> Result<Tree, NoMemory>
+        requires few { length places.now < 2 ^ 32 }
+        requires placed { All IsPlaced places.now }
+        ensures { IfOk result (λ tree. StandsFor tree places.now) }
+    {
+        let mut tree = Tree::open(alloc, places)?;
+        tree.rebuild(places);
+        Ok(tree)
+    }
+
     /// Makes the tree stand for these places, as many as it was opened for. It takes no memory.
     pub fn rebuild(&mut self, places: &[Place])
         requires room { HasRoomFor self.old (length places.now) }

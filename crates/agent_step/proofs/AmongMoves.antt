@@ -51,9 +51,9 @@ length-hard_planes scenario agent =
 
 -- the hard half-planes, the walls in an order of their own
 pub hard_from : (scenario : Parts) (segments : List Segment) (crowd : List Agent) (who : ℕ) (agent : Agent) (polygon planes : List Plane)
-    → polygon ≡ ring_planes scenario.ring (agent_at crowd who).speed → agent ≡ agent_at crowd who → planes ≡ polygon ++ wall_planes segments agent → planes ≡ hard_planes (with_walls scenario segments) agent
+    → polygon ≡ ring_planes scenario.ring (agent_at crowd who).speed → agent ≡ agent_at crowd who → planes ≡ polygon ++ wall_planes segments agent → planes ≡ hard_planes (with_walls scenario segments) (agent_at crowd who)
 hard_from scenario segments crowd who agent polygon planes ring there are =
-    are ∙ ap (λ (first : List Plane). first ++ wall_planes segments agent) (ring ∙ sym (ap (λ (agent : Agent). ring_planes scenario.ring agent.speed) there))
+    are ∙ (λ i. ring i ++ wall_planes segments (there i))
 
 -- the shares against the neighbours that the code has
 pub shares_are : (crowd : List Agent) (who : ℕ) (near : List Near) → map (λ (near : Near). near.agent) near ≡ neighbours_of crowd who
@@ -61,12 +61,8 @@ pub shares_are : (crowd : List Agent) (who : ℕ) (near : List Near) → map (λ
 shares_are crowd who near e = sym (map-map (share_against crowd who) (λ (near : Near). near.agent) near) ∙ ap (map (share_against crowd who)) e
 
 -- they stand behind the walls
-pub shares_behind : (crowd seen : List Agent) (who : ℕ) (near : List Near) (walls first planes : List Plane) → seen ≡ crowd → map (λ (near : Near). near.agent) near ≡ neighbours_of crowd who
-    → first ≡ walls → planes ≡ walls ++ map (λ (near : Near). share_against seen who near.agent) near → drop (length first) planes ≡ soft_planes crowd who
-shares_behind crowd seen who near walls first planes e f g h =
-    ap (drop (length first)) h ∙ drop_at walls (map (λ (near : Near). share_against seen who near.agent) near) (length first) (sym (ap length g))
-    ∙ ap (λ (seen : List Agent). map (λ (near : Near). share_against seen who near.agent) near) e
-    ∙ shares_are crowd who near f
+pub shares_behind : (walls first planes soft : List Plane) → first ≡ walls → planes ≡ walls ++ soft → drop (length first) planes ≡ soft
+shares_behind walls first planes soft g h = ap (drop (length first)) h ∙ drop_at walls soft (length first) (sym (ap length g))
 
 -- with no half-plane before them all are relieved
 pub relieved_shares : (planes soft : List Plane) (hard : ℕ) → hard ≡ 0 → drop hard planes ≡ soft → relieved_after hard GREATEST_RELIEF planes ≡ map (λ plane. relieved_of plane GREATEST_RELIEF) soft
@@ -77,18 +73,12 @@ pub record IsListed (scenario : Parts) (crowd : List Agent) (who hard : ℕ) (pl
   pub are : planes ≡ hard_planes scenario (agent_at crowd who) ++ soft_planes crowd who
   pub count : length (hard_planes scenario (agent_at crowd who)) ≡ hard
 
-pub listed : (scenario : Parts) (crowd seen : List Agent) (who : ℕ) (agent : Agent) (near : List Near) (planes first hard : List Plane)
-    → seen ≡ crowd → agent ≡ agent_at crowd who → map (λ (near : Near). near.agent) near ≡ neighbours_of crowd who
-    → first ≡ hard_planes scenario agent → hard ≡ first → planes ≡ first ++ map (λ (near : Near). share_against seen who near.agent) near
-    → IsListed scenario crowd who (length hard) planes
-listed scenario crowd seen who agent near planes first hard f g h k l m =
-    let firm : first ≡ hard_planes scenario (agent_at crowd who) = k ∙ ap (hard_planes scenario) g in
-    let soft : map (λ (near : Near). share_against seen who near.agent) near ≡ soft_planes crowd who =
-    ap (λ (seen : List Agent). map (λ (near : Near). share_against seen who near.agent) near) f ∙ shares_are crowd who near h in
-    record {
-      are = m ∙ (λ i. firm i ++ soft i);
-      count = ap length (sym (l ∙ firm));
-    }
+pub listed : (scenario : Parts) (crowd : List Agent) (who : ℕ) (planes first hard : List Plane)
+    → first ≡ hard_planes scenario (agent_at crowd who) → hard ≡ first → planes ≡ first ++ soft_planes crowd who → IsListed scenario crowd who (length hard) planes
+listed scenario crowd who planes first hard firm same all = record {
+  are = all ∙ ap (λ (first : List Plane). first ++ soft_planes crowd who) firm;
+  count = ap length (sym (same ∙ firm));
+}
 
 module _ (scenario : Parts) (crowd : List Agent) (who hard : ℕ) (planes : List Plane) (listed : IsListed scenario crowd who hard planes) where
   pub hard_are : take hard planes ≡ hard_planes scenario (agent_at crowd who)

@@ -1,12 +1,13 @@
 // What an agent does in a step.
-ghost use Rattle.std.specs.Prelude.{◌≡◌, ◌≢◌, ◌⊎◌, ◌+◌, ◌<◌, ◌≤◌, pos, ◌*ℤ◌, ◌≤ℤ◌, IfSome, length, map, take};
+ghost use Rattle.std.specs.Prelude.{◌≡◌, ◌≢◌, ◌⊎◌, ◌+◌, ◌++◌, ◌<◌, ◌≤◌, All, pos, ◌*ℤ◌, ◌≤ℤ◌, IfSome, length, map, take};
 ghost use Rattle.fixed_vec.specs.Meeting.{relieved_after};
 ghost use Rattle.fixed_vec.specs.Vector.{square};
-ghost use Rattle.crowd_data.specs.Advice.{IsAdvice, GivesWay, StandsStill, agent_at, neighbours_of};
+ghost use Rattle.crowd_data.specs.Advice.{IsAdvice, GivesWay, StandsStill, agent_at, neighbours_of, soft_planes};
 ghost use Rattle.crowd_data.specs.Limits.{IsBuild, IsVelocity, fine_ring};
 ghost use Rattle.crowd_data.specs.declared.frame.Mark.TheVariants.{Feasible, Fallback};
 ghost use Rattle.planar_line.specs.Relief.{KeepBounds};
 ghost use Rattle.planar_program.specs.Met.{IsMet};
+ghost use Rattle.pair_plane.specs.Sized.{IsShareSized};
 ghost use Rattle.agent_step.specs.Among.{AdvisedAmong};
 ghost use Rattle.agent_step.specs.Frozen.{KeepsLimits, agents_in, most_planes};
 ghost use Rattle.agent_step.specs.Polygons.{BeginWithPolygon};
@@ -20,7 +21,7 @@ use crate::soft::push_shares;
 use agent_kdtree::Near;
 use arrayvec::ArrayVec;
 use crowd_data::{Agent, Mark};
-use fixed_vec::{HalfPlane, V2};
+use fixed_vec::{HalfPlane, List, V2};
 use hard_plane::speed_law;
 use planar_program::{GREATEST_RELIEF, least_relief};
 
@@ -76,6 +77,18 @@ fn advise_among(planes: &[HalfPlane], hard: usize, agent: &Agent) -> Advice
     }
 }
 
+// Puts the shares of an agent that sees these neighbours behind the half-planes of a list.
+fn push_soft(planes: &mut List<HalfPlane>, crowd: &FrozenCrowd, who: usize, near: &[Near])
+    requires room { length near.now ≤ planes.old.spare }
+    requires who { who < length crowd.now.scenario.agents }
+    requires near { map (λ (near : Near). near.agent) near.now ≡ neighbours_of (agents_in crowd.now) who }
+    ensures items { planes.new.items ≡ planes.old.items ++ soft_planes (agents_in crowd.now) who }
+    ensures sized { All IsShareSized (soft_planes (agents_in crowd.now) who) }
+    ensures room { length planes.new.items + planes.new.spare ≡ length planes.old.items + planes.old.spare }
+{
+    push_shares(planes, crowd.agents(), crowd.bodies(), who, near);
+}
+
 // What an agent does that sees these neighbours, but for the mark Crowded, where its polygon doesn't bind it.
 fn advise_freely(
     crowd: &FrozenCrowd,
@@ -95,7 +108,7 @@ fn advise_freely(
     let planes = &mut scratch.planes;
     fill_walls(planes, &agent, crowd.walls());
     let walls = planes.items().len();
-    push_shares(planes, crowd.agents(), crowd.bodies(), who, near);
+    push_soft(planes, crowd, who, near);
     free_advice(planes.items(), walls, crowd.polygon(who), &agent)
 }
 
@@ -113,7 +126,7 @@ fn advise_fully(crowd: &FrozenCrowd, who: usize, near: &[Near], scratch: &mut Sc
     let planes = &mut scratch.planes;
     fill(planes, crowd.polygon(who), &agent, crowd.walls());
     let hard = planes.items().len();
-    push_shares(planes, crowd.agents(), crowd.bodies(), who, near);
+    push_soft(planes, crowd, who, near);
     advise_among(planes.items(), hard, &agent)
 }
 

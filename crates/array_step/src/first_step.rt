@@ -1,18 +1,15 @@
 // The first step of a scenario.
-ghost use Rattle.std.specs.Prelude.{◌≡◌, ◌+◌, ◌≤◌, ◌<◌, ◌^◌, [], All, IfOk, drop, length, map, take};
-ghost use Rattle.crowd_data.specs.Advice.{place_of};
+ghost use Rattle.std.specs.Prelude.{◌≡◌, ◌+◌, ◌≤◌, [], IfOk, drop, length, map, take};
 ghost use Rattle.crowd_data.specs.Run.{IsNext, Snapshot, start_of};
 ghost use Rattle.crowd_data.specs.Scenario.{IsValid};
-ghost use Rattle.agent_kdtree.specs.Placed.{IsPlaced};
-ghost use Rattle.agent_kdtree.specs.Stands.{StandsFor};
 ghost use Rattle.agent_step.specs.Frozen.{most_planes};
 ghost use Rattle.array_step.specs.Arrays.{agent_of, all_moved};
 
 use crate::agent::CrowdAgent;
 use crate::numbers::advised;
 use agent_kdtree::Tree;
-use agent_step::{FrozenCrowd, Polygons, Scratch, WallBlocks, advise};
-use crowd_data::{Agent, Frame, Place, Scenario, first_frame};
+use agent_step::{FrozenCrowd, Polygons, Scratch, WallBlocks, advise, open_fixed, open_places};
+use crowd_data::{Frame, Place, Scenario, first_frame};
 use fixed_vec::{List, NoMemory};
 use std::alloc::Global;
 use std::marker::Model;
@@ -41,32 +38,6 @@ impl Model for FirstStep {
     ghost invariant = { λ s. IsReady s.scenario (snapshot_of s.frame) s.polygons s.walls s.places.items s.tree s.scratch };
 }
 
-// The places of agents.
-fn places_of(alloc: Global, agents: &[Agent]) -> Result<List<Place>, NoMemory>
-    ensures { IfOk result (λ places. places.items ≡ map place_of agents.now) }
-{
-    let mut places = List::with_room(alloc, agents.len())?;
-    for agent in agents {
-        places.push(Place {
-            pos: agent.pos,
-            radius: agent.radius,
-            speed: agent.speed,
-        });
-    }
-    Ok(places)
-}
-
-// The tree over these places.
-fn tree_over(alloc: Global, places: &[Place]) -> Result<Tree, NoMemory>
-    requires few { length places.now < 2 ^ 32 }
-    requires placed { All IsPlaced places.now }
-    ensures { IfOk result (λ tree. StandsFor tree places.now) }
-{
-    let mut tree = Tree::open(alloc, places)?;
-    tree.rebuild(places);
-    Ok(tree)
-}
-
 // Moves agents, the first of which has this number in the crowd, each by its advice.
 fn move_each(agents: &mut [CrowdAgent], crowd: &FrozenCrowd, first: usize, scratch: &mut Scratch)
     requires there { first + length agents.old ≤ length crowd.now.scenario.agents }
@@ -90,10 +61,8 @@ impl FirstStep {
         ensures { IfOk result (λ step. step ≡ scenario) }
     {
         let frame = first_frame(alloc, &scenario)?;
-        let polygons = Polygons::open(alloc, &scenario)?;
-        let walls = WallBlocks::open(alloc, scenario.segments())?;
-        let places = places_of(alloc, scenario.agents())?;
-        let tree = tree_over(alloc, places.items())?;
+        let (polygons, walls) = open_fixed(alloc, &scenario)?;
+        let (places, tree) = open_places(alloc, scenario.agents())?;
         let scratch = Scratch::open(alloc, scenario.segments().len())?;
         Ok(FirstStep {
             scenario,

@@ -1,15 +1,11 @@
 // Agents alone and among others, with expected advice by hand.
-ghost use Rattle.std.specs.Prelude.{◌≡◌, ◌<◌, ◌^◌, All, IfOk, length, map};
-ghost use Rattle.agent_kdtree.specs.Placed.{IsPlaced};
-ghost use Rattle.agent_kdtree.specs.Stands.{StandsFor};
-ghost use Rattle.crowd_data.specs.Advice.{place_of};
+ghost use Rattle.std.specs.Prelude.{◌<◌, IfOk, length};
 ghost use Rattle.crowd_data.specs.Limits.{IsVelocity};
 
 use crate::scenarios::scenario_of;
-use agent_kdtree::Tree;
-use agent_step::{Advice, FrozenCrowd, Polygons, Scratch, WallBlocks, advise};
-use crowd_data::{Agent, FINE_RING, Mark, PLAIN_RING, Place, Scenario, Segment, first_frame};
-use fixed_vec::{List, NoMemory, V2, dot};
+use agent_step::{Advice, FrozenCrowd, Scratch, advise, open_fixed, open_places};
+use crowd_data::{Agent, FINE_RING, Mark, PLAIN_RING, Scenario, Segment, first_frame};
+use fixed_vec::{V2, dot};
 use std::alloc::Global;
 use std::test::Fail;
 
@@ -30,41 +26,15 @@ const WALKER: Agent = Agent {
     weight: 1,
 };
 
-fn places_of(alloc: Global, agents: &[Agent]) -> Result<List<Place>, NoMemory>
-    ensures { IfOk result (λ places. places.items ≡ map place_of agents.now) }
-{
-    let mut places = List::with_room(alloc, agents.len())?;
-    for agent in agents {
-        places.push(Place {
-            pos: agent.pos,
-            radius: agent.radius,
-            speed: agent.speed,
-        });
-    }
-    Ok(places)
-}
-
-fn tree_over(alloc: Global, places: &[Place]) -> Result<Tree, NoMemory>
-    requires few { length places.now < 2 ^ 32 }
-    requires placed { All IsPlaced places.now }
-    ensures { IfOk result (λ tree. StandsFor tree places.now) }
-{
-    let mut tree = Tree::open(alloc, places)?;
-    tree.rebuild(places);
-    Ok(tree)
-}
-
 // The advice of the agent with this number in the first frame.
 fn first_advice(alloc: Global, scenario: &Scenario, who: usize) -> Result<Advice, Fail>
     requires who { who < length scenario.now.agents }
     ensures slow { IfOk result (λ a. IsVelocity a.vel) }
 {
-    let polygons = Polygons::open(alloc, scenario)?;
-    let walls = WallBlocks::open(alloc, scenario.segments())?;
+    let (polygons, walls) = open_fixed(alloc, scenario)?;
+    let (places, tree) = open_places(alloc, scenario.agents())?;
     let mut scratch = Scratch::open(alloc, scenario.segments().len())?;
     let frame = first_frame(alloc, scenario)?;
-    let places = places_of(alloc, scenario.agents())?;
-    let tree = tree_over(alloc, places.items())?;
     let crowd = FrozenCrowd::of(scenario, &frame, &polygons, &walls, places.items(), &tree);
     Ok(advise(&crowd, who, &mut scratch))
 }

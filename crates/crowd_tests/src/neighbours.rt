@@ -1,9 +1,8 @@
 // Trees over a few places, with expected neighbours by hand, and over a grid that is too large for a look
 // at all places.
-ghost use Rattle.std.specs.Prelude.{◌≡◌, ◌<◌, ◌≤◌, ◌^◌, All, IfOk, length};
+ghost use Rattle.std.specs.Prelude.{◌≡◌, ◌<◌, ◌^◌, All, IfOk, length};
 ghost use Rattle.fixed_vec.specs.Vector.{IsBelow};
 ghost use Rattle.agent_kdtree.specs.Placed.{IsPlaced};
-ghost use Rattle.agent_kdtree.specs.Stands.{StandsFor};
 
 use agent_kdtree::{Near, Tree};
 use arrayvec::ArrayVec;
@@ -23,19 +22,9 @@ fn walker(pos: V2) -> Place
     }
 }
 
-fn tree_over(alloc: Global, places: &[Place]) -> Result<Tree, NoMemory>
-    requires few { length places.now < 2 ^ 32 }
-    requires placed { All IsPlaced places.now }
-    ensures { IfOk result (λ tree. StandsFor tree places.now) }
-{
-    let mut tree = Tree::open(alloc, places)?;
-    tree.rebuild(places);
-    Ok(tree)
-}
-
 #[test]
 fn no_places(rt: HostRuntime) -> Result<(), Fail> {
-    tree_over(rt.alloc(), &[])?;
+    Tree::over(rt.alloc(), &[])?;
     Ok(())
 }
 
@@ -47,7 +36,7 @@ fn crowded(rt: HostRuntime) -> Result<(), Fail> {
         walker(V2 { x: 1500, y: 0 }),
         walker(V2 { x: 0, y: 1700 }),
     ];
-    let tree = tree_over(rt.alloc(), &places)?;
+    let tree = Tree::over(rt.alloc(), &places)?;
     let near = tree.nearest(&places, 0, 15000, 1);
     assert_eq!(rt;
         near.as_slice(),
@@ -82,7 +71,7 @@ fn not_crowded_by_the_far(rt: HostRuntime) -> Result<(), Fail> {
         walker(V2 { x: 1500, y: 0 }),
         walker(V2 { x: 0, y: 1801 }),
     ];
-    let tree = tree_over(rt.alloc(), &places)?;
+    let tree = Tree::over(rt.alloc(), &places)?;
     let near = tree.nearest(&places, 0, 15000, 1);
     assert_eq!(rt;
         near.as_slice(),
@@ -105,7 +94,7 @@ fn tie(rt: HostRuntime) -> Result<(), Fail> {
         walker(V2 { x: 1200, y: 0 }),
         walker(V2 { x: -1200, y: 0 }),
     ];
-    let tree = tree_over(rt.alloc(), &places)?;
+    let tree = Tree::over(rt.alloc(), &places)?;
     let first = Near {
         agent: 1,
         dist: 1440000,
@@ -127,7 +116,7 @@ fn tie(rt: HostRuntime) -> Result<(), Fail> {
 #[test]
 fn range(rt: HostRuntime) -> Result<(), Fail> {
     let places = [walker(V2 { x: 0, y: 0 }), walker(V2 { x: 300, y: 400 })];
-    let tree = tree_over(rt.alloc(), &places)?;
+    let tree = Tree::over(rt.alloc(), &places)?;
     assert_eq!(rt; tree.nearest(&places, 0, 500, 10).len(), 0);
     assert_eq!(rt; tree.nearest(&places, 0, 501, 10).len(), 1);
     assert_eq!(rt; tree.nearest(&places, 0, 501, 0).len(), 0);
@@ -188,7 +177,7 @@ fn around(who: u32) -> ArrayVec<Near, 4>
 #[test]
 fn sees_the_next_in_a_large_grid(rt: HostRuntime) -> Result<(), Fail> {
     let places = grid(rt.alloc())?;
-    let tree = tree_over(rt.alloc(), places.items())?;
+    let tree = Tree::over(rt.alloc(), places.items())?;
     for _ in 0..10u32 {
         for who in 0..COUNT {
             let near = tree.nearest(places.items(), who, 4500, 4);

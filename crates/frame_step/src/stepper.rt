@@ -12,7 +12,7 @@ use crate::places::place_all;
 use crate::posts::take_all;
 use crate::team::Team;
 use agent_kdtree::Tree;
-use agent_step::{FrozenCrowd, Polygons, WallBlocks};
+use agent_step::{FrozenCrowd, Polygons, WallBlocks, open_fixed, open_places};
 use crowd_data::{Body, Frame, Place, Post, Scenario, first_frame};
 use fixed_vec::{List, NoMemory};
 use outside_io::{Gate, OpenGate};
@@ -53,16 +53,12 @@ impl Stepper {
         ensures scenario { IfOk result (λ s. s.scenario ≡ scenario) }
         ensures frame { IfOk result (λ s. s.frame ≡ start_of scenario) }
     {
-        let agents = scenario.agents().len();
         // The counter that the workers share is opened first, apart from the walls, which all of them read.
         let team = Team::open(alloc, &scenario, workers)?;
-        let polygons = Polygons::open(alloc, &scenario)?;
-        let walls = WallBlocks::open(alloc, scenario.segments())?;
+        let (polygons, walls) = open_fixed(alloc, &scenario)?;
+        let (places, tree) = open_places(alloc, scenario.agents())?;
         let frame = first_frame(alloc, &scenario)?;
         let next = first_frame(alloc, &scenario)?.bodies;
-        let mut places = List::with_room(alloc, agents)?;
-        place_all(&mut places, scenario.agents(), frame.bodies.items());
-        let tree = Tree::open(alloc, places.items())?;
         Ok(Stepper {
             scenario,
             polygons,

@@ -1,10 +1,9 @@
-use Rattle.std.proofs.Common.{◌≡◌, ◌++◌, List, rules, sym, subst}
+use Rattle.std.proofs.Common.{◌≡◌, ◌++◌, rules, sym, subst}
 use Rattle.std.specs.List.{All}
 use Rattle.std.proofs.lemmas.List.Elements.{All-append}
 use Rattle.exact_algebra.proofs.Elements.{back_of, front_of}
 use Rattle.work_claim.specs.Names.{claims_id}
 use Rattle.frame_step.specs.Workers.{HasWorked, IsEquipped}
-use Rattle.frame_step.specs.declared.worker.Worker.{Worker}
 use Rattle.frame_step.proofs.team.+one_by_one.Goals as goal
 
 pub returns-clause-worked : goal.returns-clause-worked

@@ -1,18 +1,9 @@
-use Rattle.std.proofs.Common.{◌≡◌, ◌∙◌, ap, map, subst, sym}
-use Rattle.std.specs.List.{All}
+use Rattle.std.proofs.Common.{◌∙◌, ap, map, sym}
 use Rattle.crowd_data.specs.Advice.{place_of}
 use Rattle.crowd_data.specs.Run.{Snapshot, crowd_of}
 use Rattle.crowd_data.proofs.Frames.{start_present}
-use Rattle.agent_kdtree.specs.Placed.{IsPlaced}
-use Rattle.agent_kdtree.specs.Stands.{StandsFor}
-use Rattle.agent_step.proofs.FirstFrames.{all_places, crowd_of-start}
+use Rattle.agent_step.proofs.FirstFrames.{crowd_of-start}
 use Rattle.array_step.proofs.first_step.FirstStep.open.Goals as goal
-
-pub tree_over-requires-clause-placed : goal.tree_over-requires-clause-placed
-tree_over-requires-clause-placed c =
-    let agents = c.args.scenario.agents in
-    let places : c.items.result.now ≡ map place_of agents = c.items.ensures ∙ c.in_ok-places.ensures ∙ ap (map place_of) c.agents.ensures.value in
-    subst (All IsPlaced) (sym places) (all_places agents c.agents.ensures.valid.agents)
 
 pub invariant_of-result : goal.invariant_of-result
 invariant_of-result c =
@@ -25,10 +16,10 @@ invariant_of-result c =
       start = start;
       frozen = record {
         present = rw start (start_present scenario valid);
-        polygons = c.in_ok-polygons.ensures;
-        walls = rw c.segments.ensures.value at c.in_ok-walls.ensures;
-        places = c.in_ok-places.ensures ∙ ap (map place_of) (c.agents.ensures.value ∙ sym crowd);
-        tree = subst (StandsFor c.in_ok-tree.tree) c.items.ensures c.in_ok-tree.ensures;
+        polygons = c.in_ok-polygons.ensures.polygons;
+        walls = c.in_ok-polygons.ensures.walls;
+        places = c.in_ok-places.ensures.places ∙ ap (map place_of) (c.agents.ensures.value ∙ sym crowd);
+        tree = c.in_ok-places.ensures.tree;
       };
-      planes = rw c.segments-2.ensures.value at c.in_ok-scratch.ensures;
+      planes = rw c.segments.ensures.value at c.in_ok-scratch.ensures;
     }

@@ -1,6 +1,6 @@
 use Rattle.std.proofs.Common.{◌≡◌, ◌≤◌, ◌+◌, ◌++◌, drop, length, map}
 use Rattle.crowd_data.specs.Advice.{place_of}
-use Rattle.array_step.proofs.first_step.places_of.Given as goal
+use Rattle.agent_step.proofs.opening.places_of.Given as goal
 
 -- the places so far, those of the agents that are left, and room for these
 abbrev pub invariant-loop-agent : goal.invariant-loop-agent
