@@ -13,6 +13,7 @@ use std::sync::Wait;
 use std::sync::atomic::{AtomicBool, Ordering};
 use std::test::Fail;
 use std::thread;
+use std::thread::Threads;
 
 // A scenario of so many steps without agents.
 fn empty_crowd(alloc: Global, steps: u32) -> Result<Scenario, NoMemory>
@@ -120,54 +121,69 @@ fn number_read<R: Wait>(rt: &R, reader: FrameReader) -> (FrameReader, u32)
     (guard.leave(), number)
 }
 
-#[test]
-fn a_note_leads_to_the_frame_that_it_tells_of(rt: HostRuntime) -> Result<(), Fail> {
-    let (mut writer, reader) = writer_and_reader(&rt, rt.alloc(), 1)?;
-    let (mut reader, before) = number_read(&rt, reader);
-    let done = publish_next(&rt, rt.alloc(), &mut writer, 1, &[SCRIPT, SCRIPT]).is_ok();
+// Reads, publishes a frame, and reads once more with a note of it: the numbers read, and what the note tells.
+fn read_by_a_note<R: Wait>(rt: &R, alloc: Global) -> Result<([u32; 2], [u32; 3]), NoMemory> {
+    let (mut writer, reader) = writer_and_reader(rt, alloc, 1)?;
+    let (mut reader, before) = number_read(rt, reader);
+    let published = publish_next(rt, alloc, &mut writer, 1, &[SCRIPT, SCRIPT]);
     let note = writer.tell(0);
     let told = [note.number(), note.controller(), note.taken()];
     reader.learn(note);
-    let (_reader, after) = number_read(&rt, reader);
-    writer.close(&rt);
-    assert!(rt; done);
-    assert_eq!(rt; before, 0);
-    assert_eq!(rt; told, [1, 0, 0]);
-    assert_eq!(rt; after, 1);
-    Ok(())
+    let (_reader, after) = number_read(rt, reader);
+    writer.close(rt);
+    published?;
+    Ok(([before, after], told))
 }
 
 #[test]
-fn posts_are_counted_for_their_controllers(rt: HostRuntime) -> Result<(), Fail> {
-    let (mut writer, _reader) = writer_and_reader(&rt, rt.alloc(), 2)?;
+fn a_note_leads_to_the_frame_that_it_tells_of(rt: HostRuntime) -> Result<(), Fail> {
+    let (read, told) = read_by_a_note(&rt, rt.alloc())?;
+    assert_eq!(rt; read, [0, 1]);
+    assert_eq!(rt; told, [1, 0, 0]);
+    Ok(())
+}
+
+// How many posts were taken in of controller 3, after one frame and after two, and then of two others.
+fn counted<R: Wait>(rt: &R, alloc: Global) -> Result<[u32; 4], NoMemory> {
+    let (mut writer, _reader) = writer_and_reader(rt, alloc, 2)?;
     let mut counted = [9, 9, 9, 9];
-    if let Ok(()) = publish_next(&rt, rt.alloc(), &mut writer, 1, &[3, SCRIPT, 3, 15]) {
+    if let Ok(()) = publish_next(rt, alloc, &mut writer, 1, &[3, SCRIPT, 3, 15]) {
         counted[0] = writer.tell(3).taken();
-        if let Ok(()) = publish_next(&rt, rt.alloc(), &mut writer, 2, &[3]) {
+        if let Ok(()) = publish_next(rt, alloc, &mut writer, 2, &[3]) {
             counted[1] = writer.tell(3).taken();
             counted[2] = writer.tell(15).taken();
             counted[3] = writer.tell(0).taken();
         }
     }
-    writer.close(&rt);
-    assert_eq!(rt; counted, [2, 3, 1, 0]);
+    writer.close(rt);
+    Ok(counted)
+}
+
+#[test]
+fn posts_are_counted_for_their_controllers(rt: HostRuntime) -> Result<(), Fail> {
+    assert_eq!(rt; counted(&rt, rt.alloc())?, [2, 3, 1, 0]);
     Ok(())
+}
+
+// Reads, publishes a frame, and reads twice after a note of it and an older one were learnt: the numbers read.
+fn read_by_late_notes<R: Wait>(rt: &R, alloc: Global) -> Result<[u32; 3], NoMemory> {
+    let (mut writer, reader) = writer_and_reader(rt, alloc, 1)?;
+    let early = writer.tell(1);
+    let (mut reader, before) = number_read(rt, reader);
+    let published = publish_next(rt, alloc, &mut writer, 1, &[]);
+    reader.learn(writer.tell(1));
+    reader.learn(early);
+    let (reader, after) = number_read(rt, reader);
+    let (_reader, again) = number_read(rt, reader);
+    writer.close(rt);
+    published?;
+    Ok([before, after, again])
 }
 
 // The last frame is there for a reader that learnt of it after it had read, also where it learnt an older note last.
 #[test]
 fn a_note_may_be_learnt_after_reads(rt: HostRuntime) -> Result<(), Fail> {
-    let (mut writer, reader) = writer_and_reader(&rt, rt.alloc(), 1)?;
-    let early = writer.tell(1);
-    let (mut reader, before) = number_read(&rt, reader);
-    let done = publish_next(&rt, rt.alloc(), &mut writer, 1, &[]).is_ok();
-    reader.learn(writer.tell(1));
-    reader.learn(early);
-    let (reader, after) = number_read(&rt, reader);
-    let (_reader, again) = number_read(&rt, reader);
-    writer.close(&rt);
-    assert!(rt; done);
-    assert_eq!(rt; [before, after, again], [0, 1, 1]);
+    assert_eq!(rt; read_by_late_notes(&rt, rt.alloc())?, [0, 1, 1]);
     Ok(())
 }
 
@@ -192,20 +208,31 @@ fn sees_the_other<R: Wait>(
     seen
 }
 
-#[test]
-fn two_readers_look_at_one_time(rt: HostRuntime) -> Result<(), Fail> {
-    let scenario = empty_crowd(rt.alloc(), 1)?;
-    let first = first_frame(rt.alloc(), &scenario)?;
-    let (writer, mut readers) = open(&rt, rt.alloc(), &scenario, &first, 2)?;
-    let one = readers.pop().expect(&rt, "two readers");
-    let two = readers.pop().expect(&rt, "two readers");
+// Whether two readers see each other's flags while each looks at a frame.
+fn see_each_other<R: Wait + Threads + Sync>(rt: &R, one: FrameReader, two: FrameReader) -> bool {
     let flags = [AtomicBool::new(false), AtomicBool::new(false)];
     let (here, there) = thread::join(
-        &rt,
-        || sees_the_other(&rt, one, &flags[0], &flags[1]),
-        || sees_the_other(&rt, two, &flags[1], &flags[0]),
+        rt,
+        || sees_the_other(rt, one, &flags[0], &flags[1]),
+        || sees_the_other(rt, two, &flags[1], &flags[0]),
     );
-    writer.close(&rt);
-    assert!(rt; here && there);
+    here && there
+}
+
+fn two_readers_meet<R: Wait + Threads + Sync>(rt: &R, alloc: Global) -> Result<bool, NoMemory> {
+    let scenario = empty_crowd(alloc, 1)?;
+    let first = first_frame(alloc, &scenario)?;
+    let (writer, mut readers) = open(rt, alloc, &scenario, &first, 2)?;
+    let met = match (readers.pop(), readers.pop()) {
+        (Some(one), Some(two)) => see_each_other(rt, one, two),
+        _ => false,
+    };
+    writer.close(rt);
+    Ok(met)
+}
+
+#[test]
+fn two_readers_look_at_one_time(rt: HostRuntime) -> Result<(), Fail> {
+    assert!(rt; two_readers_meet(&rt, rt.alloc())?);
     Ok(())
 }

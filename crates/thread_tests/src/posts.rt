@@ -15,38 +15,61 @@ fn along(x: i64) -> V2 {
     V2 { x, y: 0 }
 }
 
+// What the calls of the worked example answered, the first post taken, and how many were taken and left.
+#[derive(Clone, Copy)]
+struct Answered {
+    posted: [Result<Receipt, PostFault>; 4],
+    took: [Taken; 2],
+    first: Option<Post>,
+    taken: usize,
+    left: usize,
+}
+
+// Posts twice with a mistake, once well and once more than may be, and takes twice.
+fn post_and_take<R: Wait>(rt: &R, alloc: Global) -> Result<Answered, NoMemory> {
+    let mut into = List::with_room(alloc, 2 * MOST_TAKEN)?;
+    let (posts, mut posters, mut taker) = open(alloc, 1, 2, 1)?;
+    let poster = &mut posters[0];
+    let posted = [
+        poster.post(rt, &posts, 2, along(16_385)),
+        poster.post(rt, &posts, 1, along(16_385)),
+        poster.post(rt, &posts, 1, along(5)),
+        poster.post(rt, &posts, 1, along(5)),
+    ];
+    let took = [
+        taker.take(rt, &posts, &mut into),
+        taker.take(rt, &posts, &mut into),
+    ];
+    let left = finish(rt, alloc, posts, posters, taker)?;
+    Ok(Answered {
+        posted,
+        took,
+        first: into.items().first().copied(),
+        taken: into.items().len(),
+        left: left.items().len(),
+    })
+}
+
 #[test]
 fn refuses_in_order_and_takes_once(rt: HostRuntime) -> Result<(), Fail> {
-    let mut into = List::with_room(rt.alloc(), 2 * MOST_TAKEN)?;
-    let (posts, mut posters, mut taker) = open(rt.alloc(), 1, 2, 1)?;
-    let poster = &mut posters[0];
-    let beyond = poster.post(&rt, &posts, 2, along(16_385));
-    let fast = poster.post(&rt, &posts, 1, along(16_385));
-    let good = poster.post(&rt, &posts, 1, along(5));
-    let more = poster.post(&rt, &posts, 1, along(5));
-    let first = taker.take(&rt, &posts, &mut into);
-    let count = into.items().len();
-    let second = taker.take(&rt, &posts, &mut into);
-    let left = finish(&rt, rt.alloc(), posts, posters, taker)?
-        .items()
-        .len();
-    assert_eq!(rt; beyond, Err(PostFault::BadAgent));
-    assert_eq!(rt; fast, Err(PostFault::BadVelocity));
+    let answered = post_and_take(&rt, rt.alloc())?;
     let receipt = Receipt {
         controller: 0,
         seq: 0,
     };
-    assert_eq!(rt; good, Ok(receipt));
-    assert_eq!(rt; more, Err(PostFault::TooManyPosts));
-    assert_eq!(rt; (first, second), (Taken::Emptied, Taken::Emptied));
+    assert_eq!(rt; answered.posted[0], Err(PostFault::BadAgent));
+    assert_eq!(rt; answered.posted[1], Err(PostFault::BadVelocity));
+    assert_eq!(rt; answered.posted[2], Ok(receipt));
+    assert_eq!(rt; answered.posted[3], Err(PostFault::TooManyPosts));
+    assert_eq!(rt; answered.took, [Taken::Emptied, Taken::Emptied]);
     let post = Post {
         controller: 0,
         seq: 0,
         agent: 1,
         vel: along(5),
     };
-    assert_eq!(rt; into.items(), [post].as_slice());
-    assert_eq!(rt; (count, left), (1, 0));
+    assert_eq!(rt; answered.first, Some(post));
+    assert_eq!(rt; (answered.taken, answered.left), (1, 0));
     Ok(())
 }
 
@@ -74,21 +97,34 @@ fn post_all<R: Wait>(rt: &R, posts: &PostBox, poster: &mut Poster, count: u32) -
     true
 }
 
+// Posts one more than is taken at once, and takes once: whether all were posted, what the taker answered, how many
+// it took, and what was left.
+fn take_all_but_one<R: Wait>(
+    rt: &R,
+    alloc: Global,
+) -> Result<(bool, Taken, usize, List<Post>), NoMemory> {
+    let mut into = List::with_room(alloc, MOST_TAKEN)?;
+    let (posts, mut posters, mut taker) = open(alloc, 1, 7, 65_537)?;
+    let posted = post_all(rt, &posts, &mut posters[0], 65_537);
+    let took = taker.take(rt, &posts, &mut into);
+    let left = finish(rt, alloc, posts, posters, taker)?;
+    Ok((posted, took, into.items().len(), left))
+}
+
 #[test]
 fn takes_enough_and_leaves_one(rt: HostRuntime) -> Result<(), Fail> {
-    let mut into = List::with_room(rt.alloc(), MOST_TAKEN)?;
-    let (posts, mut posters, mut taker) = open(rt.alloc(), 1, 7, 65_537)?;
-    assert!(rt; post_all(&rt, &posts, &mut posters[0], 65_537));
-    assert_eq!(rt; taker.take(&rt, &posts, &mut into), Taken::Enough);
-    assert_eq!(rt; into.items().len(), 65_536);
-    let left = finish(&rt, rt.alloc(), posts, posters, taker)?;
+    let (posted, took, taken, left) = take_all_but_one(&rt, rt.alloc())?;
     let last = Post {
         controller: 0,
         seq: 65_536,
         agent: 2,
         vel: along(5_536),
     };
-    assert_eq!(rt; left.items(), [last].as_slice());
+    let left_last = left.items() == [last].as_slice();
+    assert!(rt; posted);
+    assert_eq!(rt; took, Taken::Enough);
+    assert_eq!(rt; taken, 65_536);
+    assert!(rt; left_last);
     Ok(())
 }
 
