@@ -125,14 +125,8 @@ fn worker_count(workers: u32, agents: usize) -> u32
     requires { agents ≤ MOST_AGENTS }
     ensures { result ≤ workers }
 {
-    let worth = agents / AGENTS_PER_WORKER;
-    if worth < 2 || workers < 2 {
-        0
-    } else if worth < workers as usize {
-        worth as u32
-    } else {
-        workers
-    }
+    let shared = workers.min((agents / AGENTS_PER_WORKER) as u32);
+    if shared < 2 { 0 } else { shared }
 }
 
 // So many workers for the steps of a scenario.

@@ -61,7 +61,7 @@ fn open_frames<R: Wait>(
     ensures history { IfOk result (λ opened. writer_history opened.0 ≡ []) }
     ensures readers { IfOk result (λ opened. All (λ (r : FrameReader). reader_source r ≡ writer_source opened.0) opened.1.items) }
 {
-    for fewer in 0..=readers {
+    for fewer in 0..readers + 1 {
         match published_frames::open(rt, alloc, scenario, first, readers - fewer) {
             Ok(opened) => return Ok(opened),
             Err(_) => {}
