@@ -15,13 +15,14 @@ fn along(x: i64) -> V2 {
     V2 { x, y: 0 }
 }
 
-// What the calls of the worked example answered, the first post taken, and how many were taken and left.
+// What the calls of the worked example answered, the first post taken, how many were taken after each take, and how
+// many were left.
 #[derive(Clone, Copy)]
 struct Answered {
     posted: [Result<Receipt, PostFault>; 4],
     took: [Taken; 2],
     first: Option<Post>,
-    taken: usize,
+    taken: [usize; 2],
     left: usize,
 }
 
@@ -36,16 +37,15 @@ fn post_and_take<R: Wait>(rt: &R, alloc: Global) -> Result<Answered, NoMemory> {
         poster.post(rt, &posts, 1, along(5)),
         poster.post(rt, &posts, 1, along(5)),
     ];
-    let took = [
-        taker.take(rt, &posts, &mut into),
-        taker.take(rt, &posts, &mut into),
-    ];
+    let first_answer = taker.take(rt, &posts, &mut into);
+    let taken = into.items().len();
+    let second_answer = taker.take(rt, &posts, &mut into);
     let left = finish(rt, alloc, posts, posters, taker)?;
     Ok(Answered {
         posted,
-        took,
+        took: [first_answer, second_answer],
         first: into.items().first().copied(),
-        taken: into.items().len(),
+        taken: [taken, into.items().len()],
         left: left.items().len(),
     })
 }
@@ -69,7 +69,8 @@ fn refuses_in_order_and_takes_once(rt: HostRuntime) -> Result<(), Fail> {
         vel: along(5),
     };
     assert_eq!(rt; answered.first, Some(post));
-    assert_eq!(rt; (answered.taken, answered.left), (1, 0));
+    assert_eq!(rt; answered.taken, [1, 1]);
+    assert_eq!(rt; answered.left, 0);
     Ok(())
 }
 

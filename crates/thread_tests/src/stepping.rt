@@ -81,12 +81,11 @@ fn stand_after<R: Threads + Sync>(
     mark: Mark,
 ) -> Result<bool, Fail> {
     let mut stepper = opened(alloc)?;
+    let mut made = true;
     for _ in 0..steps {
-        if !make_step(rt, &mut stepper) {
-            return Ok(false);
-        }
+        made &= make_step(rt, &mut stepper);
     }
-    Ok(stand_at(stepper.frame(), first, second, mark))
+    Ok(made && stand_at(stepper.frame(), first, second, mark))
 }
 
 #[test]
@@ -149,6 +148,32 @@ fn opened_row(alloc: Global, count: u32, workers: u32) -> Result<Stepper, NoMemo
     Stepper::open(alloc, scenario, workers)
 }
 
+// A row of so many agents after two steps, made by so many workers.
+fn moved_row<R: Threads + Sync>(
+    rt: &R,
+    alloc: Global,
+    count: u32,
+    workers: u32,
+) -> Result<Stepper, NoMemory>
+    requires count { count ≤ 1000 }
+    requires some_workers { 1 ≤ workers }
+    requires workers { workers ≤ 64 }
+{
+    let mut stepper = opened_row(alloc, count, workers)?;
+    let _first = make_step(rt, &mut stepper);
+    let _second = make_step(rt, &mut stepper);
+    Ok(stepper)
+}
+
+// Whether the rows of two frames 2 have so many bodies, and the same ones.
+fn are_alike(alone: &Frame, shared: &Frame, count: u32) -> bool {
+    let bodies = shared.bodies.items();
+    alone.number == 2
+        && shared.number == 2
+        && bodies.len() == count as usize
+        && bodies == alone.bodies.items()
+}
+
 // Whether so many workers bring a row to the frame 2 that one brings it to.
 fn share_well<R: Threads + Sync>(
     rt: &R,
@@ -160,14 +185,9 @@ fn share_well<R: Threads + Sync>(
     requires some_workers { 1 ≤ workers }
     requires workers { workers ≤ 64 }
 {
-    let mut alone = opened_row(alloc, count, 1)?;
-    let mut shared = opened_row(alloc, count, workers)?;
-    let made = make_step(rt, &mut alone)
-        && make_step(rt, &mut alone)
-        && make_step(rt, &mut shared)
-        && make_step(rt, &mut shared);
-    let bodies = shared.frame().bodies.items();
-    Ok(made && bodies.len() == count as usize && bodies == alone.frame().bodies.items())
+    let alone = moved_row(rt, alloc, count, 1)?;
+    let shared = moved_row(rt, alloc, count, workers)?;
+    Ok(are_alike(alone.frame(), shared.frame(), count))
 }
 
 #[test]
