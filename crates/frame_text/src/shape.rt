@@ -1,7 +1,6 @@
 // The shape of a transcript: its frames, or the first record that isn't allowed in its place.
 ghost use Rattle.std.specs.Prelude.{◌≡◌, ◌<◌, ◌+◌, ◌^◌, [], ◌∷◌, IfOk, IfErr, Ok, All, length, true, map};
 ghost use Rattle.csv.specs.Records.{fields_of};
-ghost use Rattle.csv.specs.Reading.{error_kind, stops_reader};
 ghost use Rattle.scenario_read.specs.Records.{Rows, records_of};
 ghost use Rattle.frame_text.specs.Printed.{FitsMoves};
 ghost use Rattle.frame_text.specs.FramesRead.{StopsBy, left_from, so_far};
@@ -11,8 +10,9 @@ ghost use Rattle.frame_text.specs.declared.shape.ShapeFault.TheVariants.{NoMemor
 use crate::frame_records::{FrameFault, add_record, is_end, set_aside};
 use crate::frames::Frames;
 use crowd_data::{Moves, Scenario};
-use csv::{ByteRecord, Error, ReaderBuilder};
+use csv::ByteRecord;
 use fixed_vec::{List, NoMemory};
+use scenario_read::RecordReader;
 use std::alloc::Global;
 
 // Why no frames were read: the number of the first record that isn't allowed, or the count of records
@@ -84,15 +84,6 @@ fn close(
     Ok(frames.whole)
 }
 
-// What a read of bytes in memory can fail by. Records of different lengths are no error.
-fn out_of_memory(error: &Error) -> ShapeFault
-    requires { stops_reader (error_kind error.now) ≡ true }
-    ensures { result ≡ OutOfMemory }
-{
-    let _read = error;
-    ShapeFault::NoMemory
-}
-
 /// The frames of a transcript, whose first records, so many of them, are its scenario's. `At` names the
 /// first record that isn't allowed in its place, or the count of records where they end too soon.
 pub(crate) fn read_frames(
@@ -105,10 +96,7 @@ pub(crate) fn read_frames(
     ensures accepted { IfOk result (λ all. (frames_of scenario.now first (records_of bytes.now) ≡ Ok (map posted_of all.items)) × All FitsMoves all.items) }
     ensures refused { IfErr result (λ fault. StopsBy fault (frames_of scenario.now first (records_of bytes.now))) }
 {
-    let mut reader = ReaderBuilder::new()
-        .has_headers(false)
-        .flexible(true)
-        .from_reader(alloc, bytes);
+    let mut reader = RecordReader::of(alloc, bytes);
     let mut row = ByteRecord::new(alloc);
     let mut frames = Frames {
         whole: List::with_room(alloc, 0)?,
@@ -117,23 +105,10 @@ pub(crate) fn read_frames(
         bodies: List::with_room(alloc, 0)?,
     };
     let mut last: Option<u32> = None;
-    for index in 0..bytes.len() as u64 + 1 {
-        let found = match reader.read_byte_record(&mut row) {
-            Ok(found) => found,
-            Err(error) => return Err(out_of_memory(&error)),
-        };
-        if !found {
-            return close(alloc, scenario, first, frames, last, index as u32);
-        }
-        add_next(
-            alloc,
-            scenario,
-            first,
-            &mut frames,
-            &mut last,
-            index as u32,
-            &row,
-        )?;
+    let mut index = 0u32;
+    while reader.read(&mut row)? {
+        add_next(alloc, scenario, first, &mut frames, &mut last, index, &row)?;
+        index += 1;
     }
-    unreachable!()
+    close(alloc, scenario, first, frames, last, index)
 }

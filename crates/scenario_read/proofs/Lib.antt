@@ -1,5 +1,6 @@
 pub mod RecordSteps
-pub mod Boms
+mod Boms
+mod RecordReads
 mod ScenarioRecords
 mod PostOrder
 mod GeneratedParts

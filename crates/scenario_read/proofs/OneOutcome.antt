@@ -1,5 +1,5 @@
 -- Records that are accepted as a scenario have no cause, and stand for no other scenario.
-use Rattle.std.proofs.Common.{◌≡◌, ◌∙◌, inl, inr, sym, ℕ, List, subst, Some, Ok}
+use Rattle.std.proofs.Common.{◌≡◌, ◌∙◌, inl, inr, sym, ℕ, List, subst, Ok}
 use Rattle.std.specs.List.{All}
 use Rattle.exact_algebra.proofs.Elements.{all_at}
 use Rattle.crowd_data.specs.declared.agent.Agent.{Agent}

@@ -119,6 +119,27 @@ pub records_none : (s : State) (xs : List ℕ) → next_record default_config s 
 unfolding records_after records_from
 records_none s xs e = rw (add-one, e) refl
 
+-- ---- a record takes a byte at least
+
+at_most_next : (n : ℕ) (s : State) (xs : List ℕ)
+    → ((t : State) (ys : List ℕ) → ends_at_end t ≡ false → length (records_from default_config n t ys) ≤ length ys)
+    → ends_at_end s ≡ false → (o : Option Read) → next_record default_config s [] [] xs ≡ o → length (records_next (records_from default_config n) o) ≤ length xs
+at_most_next n s xs ih h None e = omega arith
+at_most_next n s xs ih h (Some p) e =
+    let less = shorter s [] [] xs p e in
+    let some = not_empty s xs p h e in
+    let rest = ih p.1 p.2 (between s [] [] xs p e) in
+    omega arith
+
+at_most : (n : ℕ) (s : State) (xs : List ℕ) → ends_at_end s ≡ false → length (records_from default_config n s xs) ≤ length xs
+unfolding records_from
+at_most zero s xs h = omega arith
+at_most (suc n) s xs h = at_most_next n s xs (at_most n) h (next_record default_config s [] [] xs) refl
+
+pub records_at_most : (s : State) (xs : List ℕ) → ends_at_end s ≡ false → length (records_after s xs) ≤ length xs
+unfolding records_after
+records_at_most s xs h = at_most (length xs + 1) s xs h
+
 -- ---- one read of a reader
 
 one_more : (s t : State) (y z : List ℕ) (f : List (List ℕ)) (p : Read) → ends_at_end s ≡ false → next_record default_config s [] [] y ≡ Some p

@@ -1,4 +1,5 @@
 pub mod Records
+pub mod Unread
 pub mod Numbers
 pub mod Fields
 pub mod Values

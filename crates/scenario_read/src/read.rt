@@ -2,7 +2,6 @@
 ghost use Rattle.std.specs.Prelude.{◌≡◌, ◌≤◌, ◌<◌, ◌+◌, ◌^◌, ◌∷◌, IfOk, IfErr, length, true};
 ghost use Rattle.std.specs.Option.{option_copied};
 ghost use Rattle.csv.specs.Records.{fields_of};
-ghost use Rattle.csv.specs.Reading.{error_kind, stops_reader};
 ghost use Rattle.scenario_read.specs.Additions.{read_of};
 ghost use Rattle.scenario_read.specs.Part.{before, ends_part, part_of};
 ghost use Rattle.scenario_read.specs.Reading.{HasFault, IsAccepted};
@@ -17,9 +16,10 @@ use crate::part::Part;
 use crate::reading::Reading;
 use crate::record::add_record;
 use crate::record_fault::RecordFault;
+use crate::record_reader::RecordReader;
 use crate::refusal::Refusal;
 use crowd_data::Scenario;
-use csv::{ByteRecord, Error, ReaderBuilder};
+use csv::ByteRecord;
 use fixed_vec::{List, NoMemory};
 use std::alloc::Global;
 
@@ -55,15 +55,6 @@ fn add_next(
     }
 }
 
-// What a read of bytes in memory can fail by. Records of different lengths are no error.
-fn out_of_memory(error: &Error) -> ScenarioFault
-    requires { stops_reader (error_kind error.now) ≡ true }
-    ensures { result ≡ OutOfMemory }
-{
-    let _read = error;
-    ScenarioFault::NoMemory
-}
-
 // Whether a record is of the kind that ends the part, if there is such a kind.
 fn ends_part(row: &ByteRecord, stop: Option<&[u8]>) -> bool
     ensures { result ≡ ends_part (option_copied stop.entry) (fields_of row.now) }
@@ -81,10 +72,7 @@ fn read_until(alloc: Global, bytes: &[u8], stop: Option<&[u8]>) -> Result<Part, 
     ensures records { IfOk result (λ part. part.records ≡ length (part_of (option_copied stop.entry) (records_of bytes.now))) }
     ensures refused { IfErr result (HasFault (part_of (option_copied stop.entry) (records_of bytes.now))) }
 {
-    let mut reader = ReaderBuilder::new()
-        .has_headers(false)
-        .flexible(true)
-        .from_reader(alloc, bytes);
+    let mut reader = RecordReader::of(alloc, bytes);
     let mut row = ByteRecord::new(alloc);
     let mut reading = Reading {
         version: None,
@@ -97,20 +85,12 @@ fn read_until(alloc: Global, bytes: &[u8], stop: Option<&[u8]>) -> Result<Part, 
         goal_table: List::with_room(alloc, 0)?,
     };
     let mut refusal: Option<Refusal> = None;
-    for index in 0..bytes.len() as u64 + 1 {
-        let found = match reader.read_byte_record(&mut row) {
-            Ok(found) => found,
-            Err(error) => return Err(out_of_memory(&error)),
-        };
-        if !found {
-            return end(reading, refusal, index as u32);
-        }
-        if ends_part(&row, stop) {
-            return end(reading, refusal, index as u32);
-        }
-        add_next(&mut reading, &mut refusal, index as u32, &row)?;
+    let mut index = 0u32;
+    while reader.read(&mut row)? && !ends_part(&row, stop) {
+        add_next(&mut reading, &mut refusal, index, &row)?;
+        index += 1;
     }
-    unreachable!()
+    end(reading, refusal, index)
 }
 
 /// The scenario that bytes stand for, fewer than 2^32 of them. Its records are those that `csv` gives

@@ -1,4 +1,4 @@
-//! Tests of bytes in and out, of scenarios and transcripts as texts, and of words.
+//! Tests of bytes in and out, of records, of scenarios and transcripts as texts, and of words.
 #![tactic(auto)]
 
 #[cfg(test)]
@@ -9,6 +9,8 @@ mod generated;
 mod laws;
 #[cfg(test)]
 mod lines;
+#[cfg(test)]
+mod records;
 #[cfg(test)]
 mod scenarios;
 #[cfg(test)]

@@ -5,6 +5,7 @@ ghost use Rattle.crowd_data.specs.Run.{start_of};
 ghost use Rattle.published_frames.specs.History.{CanFollow, last_of, step_of};
 ghost use Rattle.published_frames.specs.Names.{reader_source, writer_history, writer_source};
 
+use crate::looks::sees;
 use crowd_data::{FIRST_VERSION, Frame, Moves, PLAIN_RING, Post, SCRIPT, Scenario, first_frame};
 use fixed_vec::{List, NoMemory, V2};
 use published_frames::{FrameReader, FrameWriter, Unpublished, open};
@@ -196,14 +197,7 @@ fn sees_the_other<R: Wait>(
 ) -> bool {
     let guard = reader.read(rt);
     own.store(true, Ordering::SeqCst);
-    let mut seen = false;
-    for _ in 0..1000000u32 {
-        if other.load(Ordering::SeqCst) {
-            seen = true;
-            break;
-        }
-        thread::yield_now();
-    }
+    let seen = sees(other);
     guard.leave();
     seen
 }

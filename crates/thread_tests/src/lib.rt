@@ -8,6 +8,8 @@ mod frames;
 #[cfg(test)]
 mod live;
 #[cfg(test)]
+mod looks;
+#[cfg(test)]
 mod posts;
 #[cfg(test)]
 mod stepping;

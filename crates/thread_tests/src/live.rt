@@ -1,4 +1,5 @@
 // Live runs over sinks in memory.
+use crate::looks::sees;
 use crate::texts::scenario_of;
 use crowd_data::Moves;
 use fixed_vec::{List, NoMemory};
@@ -9,7 +10,7 @@ use std::alloc::Global;
 use std::sync::Wait;
 use std::sync::atomic::{AtomicBool, AtomicU64, Ordering};
 use std::test::Fail;
-use std::thread::{Threads, yield_now};
+use std::thread::Threads;
 
 // Room for all that these runs write.
 const ROOM: usize = 1_000_000;
@@ -176,16 +177,10 @@ struct Meeting {
     met: [AtomicBool; 2],
 }
 
-// Looks for the other's flag, for a while.
+// Raises a flag, and looks for the other one.
 fn meets(own: &AtomicBool, other: &AtomicBool) -> bool {
     own.store(true, Ordering::SeqCst);
-    for _ in 0..1_000_000u32 {
-        if other.load(Ordering::SeqCst) {
-            return true;
-        }
-        yield_now();
-    }
-    false
+    sees(other)
 }
 
 impl Gate for Meeting {
@@ -223,17 +218,6 @@ struct Holding {
     steps: AtomicU64,
     came: [AtomicBool; 2],
     seen: [AtomicBool; 2],
-}
-
-// Looks for a flag, for a while.
-fn sees(flag: &AtomicBool) -> bool {
-    for _ in 0..1_000_000u32 {
-        if flag.load(Ordering::SeqCst) {
-            return true;
-        }
-        yield_now();
-    }
-    false
 }
 
 impl Gate for Holding {

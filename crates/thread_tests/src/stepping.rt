@@ -2,6 +2,7 @@
 ghost use Rattle.std.specs.Prelude.{◌≡◌, ◌<◌, ◌≤◌, All, IfOk, length};
 ghost use Rattle.crowd_data.specs.Limits.{IsAgent};
 
+use crate::looks::LOOKS;
 use crate::texts::scenario_of;
 use crowd_data::{Agent, Frame, Mark, Scenario};
 use fixed_vec::{List, NoMemory, V2};
@@ -12,9 +13,6 @@ use std::sync::atomic::{AtomicU64, Ordering};
 use std::test::Fail;
 use std::thread;
 use std::thread::Threads;
-
-/// How often a worker looks for another one at a gate.
-const LOOKS: u32 = 1_000_000;
 
 const ORIGIN: V2 = V2 { x: 0, y: 0 };
 

@@ -1,0 +1,17 @@
+// Looking for what another thread does.
+use std::sync::atomic::{AtomicBool, Ordering};
+use std::thread::yield_now;
+
+/// How often a thread looks for another one.
+pub(crate) const LOOKS: u32 = 1_000_000;
+
+/// Looks for a flag, for a while.
+pub(crate) fn sees(flag: &AtomicBool) -> bool {
+    for _ in 0..LOOKS {
+        if flag.load(Ordering::SeqCst) {
+            return true;
+        }
+        yield_now();
+    }
+    false
+}
