@@ -1,7 +1,7 @@
 // Scenarios, and inputs that stand for none.
 use crate::texts::{
-    at, controllers_of, fault_of, has_agents, has_goals, has_posts, has_segments, head_of,
-    is_accepted, is_refused, part_fault_of, part_head_of,
+    Refusal, at, controllers_of, fault_of, first_not_refused, has_agents, has_goals, has_posts,
+    has_segments, head_of, is_accepted, is_refused, part_fault_of, part_head_of,
 };
 use crowd_data::{Agent, Goal, ScriptPost, Segment};
 use fixed_vec::V2;
@@ -66,75 +66,35 @@ fn reads_agents_and_segments_in_any_order(rt: HostRuntime) -> Result<(), Fail> {
 
 #[test]
 fn names_the_first_cause(rt: HostRuntime) {
-    let alloc = rt.alloc();
-    assert!(rt; is_refused(alloc, b"", 0, Cause::NoHeader));
-    assert!(rt; is_refused(alloc, b"crowd,1,1\nsteps,1", 0, Cause::NoHeader));
-    assert!(rt; is_refused(alloc, b"crowd,1\n", 1, Cause::NoSteps));
-    assert!(rt; is_refused(alloc, b"crowd,1\nsteps,1\ntree,1", 2, Cause::UnknownKind));
-    assert!(rt; is_refused(alloc, b"crowd,1\nsteps,1\ncrowd,1", 2, Cause::UnknownKind));
-    assert!(rt; is_refused(alloc, b"crowd,1\nsteps,1\nagent,0,0", 2, Cause::FieldCount));
-    assert!(rt;
-        is_refused(
-            alloc,
-            b"crowd,1\nsteps,x",
-            1,
-            Cause::NotANumber { field: 1 }
-        )
-    );
-    assert!(rt;
-        is_refused(
-            alloc,
-            b"crowd,1\nsteps,-",
-            1,
-            Cause::NotANumber { field: 1 }
-        )
-    );
-    assert!(rt;
-        is_refused(
-            alloc,
-            b"crowd,1\nsteps,+1",
-            1,
-            Cause::NotANumber { field: 1 }
-        )
-    );
-    assert!(rt;
-        is_refused(
-            alloc,
+    let rows: [Refusal; 14] = [
+        (b"", 0, Cause::NoHeader),
+        (b"crowd,1,1\nsteps,1", 0, Cause::NoHeader),
+        (b"crowd,1\n", 1, Cause::NoSteps),
+        (b"crowd,1\nsteps,1\ntree,1", 2, Cause::UnknownKind),
+        (b"crowd,1\nsteps,1\ncrowd,1", 2, Cause::UnknownKind),
+        (b"crowd,1\nsteps,1\nagent,0,0", 2, Cause::FieldCount),
+        (b"crowd,1\nsteps,x", 1, Cause::NotANumber { field: 1 }),
+        (b"crowd,1\nsteps,-", 1, Cause::NotANumber { field: 1 }),
+        (b"crowd,1\nsteps,+1", 1, Cause::NotANumber { field: 1 }),
+        (
             b"crowd,1\nsteps,0000000000000000001",
             1,
-            Cause::NotANumber { field: 1 }
-        )
-    );
-    assert!(rt;
-        is_refused(
-            alloc,
-            b"crowd,1\nsteps,100001",
-            1,
-            Cause::OutOfRange { field: 1 }
-        )
-    );
-    assert!(rt; is_refused(alloc, b"crowd,1\nsteps,1\nsteps,1", 2, Cause::StepsTwice));
-    assert!(rt;
-        is_refused(
-            alloc,
+            Cause::NotANumber { field: 1 },
+        ),
+        (b"crowd,1\nsteps,100001", 1, Cause::OutOfRange { field: 1 }),
+        (b"crowd,1\nsteps,1\nsteps,1", 2, Cause::StepsTwice),
+        (
             b"crowd,1\nsteps,1\nsteps,-1",
             2,
-            Cause::OutOfRange { field: 1 }
-        )
-    );
-    assert!(rt;
-        is_refused(
-            alloc,
+            Cause::OutOfRange { field: 1 },
+        ),
+        (
             b"crowd,1\nsteps,1\nsegment,0,0,0,4194305",
             2,
-            Cause::OutOfRange { field: 4 }
-        )
-    );
-}
-
-// Whether a text is refused for this field of its record 2.
-fn is_outside(alloc: Global, input: &[u8], field: u32) -> bool {
-    is_refused(alloc, input, 2, Cause::OutOfRange { field })
+            Cause::OutOfRange { field: 4 },
+        ),
+    ];
+    assert_eq!(rt; first_not_refused(rt.alloc(), &rows), None);
 }
 
 // Whether a text is refused at its end for this agent on this segment.
@@ -144,70 +104,54 @@ fn is_on(alloc: Global, input: &[u8], agent: u32, segment: u32) -> bool {
 
 #[test]
 fn keeps_the_limits_of_an_agent(rt: HostRuntime) {
-    let alloc = rt.alloc();
-    assert!(rt;
-        is_outside(
-            alloc,
+    let rows: [Refusal; 9] = [
+        (
             b"crowd,1\nsteps,1\nagent,4194305,0,0,0,0,0,500,400,15000,0,10,4",
-            1
-        )
-    );
-    assert!(rt;
-        is_outside(
-            alloc,
+            2,
+            Cause::OutOfRange { field: 1 },
+        ),
+        (
             b"crowd,1\nsteps,1\nagent,0,0,0,-16385,0,0,500,400,15000,0,10,4",
-            4
-        )
-    );
-    assert!(rt;
-        is_outside(
-            alloc,
+            2,
+            Cause::OutOfRange { field: 4 },
+        ),
+        (
             b"crowd,1\nsteps,1\nagent,0,0,0,0,0,0,0,400,15000,0,10,4",
-            7
-        )
-    );
-    assert!(rt;
-        is_outside(
-            alloc,
+            2,
+            Cause::OutOfRange { field: 7 },
+        ),
+        (
             b"crowd,1\nsteps,1\nagent,0,0,0,0,0,0,500,16385,15000,0,10,4",
-            8
-        )
-    );
-    assert!(rt;
-        is_outside(
-            alloc,
+            2,
+            Cause::OutOfRange { field: 8 },
+        ),
+        (
             b"crowd,1\nsteps,1\nagent,0,0,0,0,0,0,500,400,65537,0,10,4",
-            9
-        )
-    );
-    assert!(rt;
-        is_outside(
-            alloc,
+            2,
+            Cause::OutOfRange { field: 9 },
+        ),
+        (
             b"crowd,1\nsteps,1\nagent,0,0,0,0,0,0,500,400,15000,65,10,4",
-            10
-        )
-    );
-    assert!(rt;
-        is_outside(
-            alloc,
+            2,
+            Cause::OutOfRange { field: 10 },
+        ),
+        (
             b"crowd,1\nsteps,1\nagent,0,0,0,0,0,0,500,400,15000,0,0,4",
-            11
-        )
-    );
-    assert!(rt;
-        is_outside(
-            alloc,
+            2,
+            Cause::OutOfRange { field: 11 },
+        ),
+        (
             b"crowd,1\nsteps,1\nagent,0,0,0,0,0,0,500,400,15000,0,4097,4",
-            11
-        )
-    );
-    assert!(rt;
-        is_outside(
-            alloc,
+            2,
+            Cause::OutOfRange { field: 11 },
+        ),
+        (
             b"crowd,1\nsteps,1\nagent,0,0,0,0,0,0,32769,16385,0,0,0,0",
-            7
-        )
-    );
+            2,
+            Cause::OutOfRange { field: 7 },
+        ),
+    ];
+    assert_eq!(rt; first_not_refused(rt.alloc(), &rows), None);
 }
 
 #[test]
@@ -316,92 +260,98 @@ fn reads_posts_and_goals_among_agents(rt: HostRuntime) -> Result<(), Fail> {
 
 #[test]
 fn keeps_the_limits_of_posts_and_goals(rt: HostRuntime) {
-    let alloc = rt.alloc();
-    assert!(rt; is_outside(alloc, b"crowd,1\nsteps,1\npost,0,0,0,0", 1));
-    assert!(rt; is_outside(alloc, b"crowd,1\nsteps,1\npost,100001,0,0,0", 1));
-    assert!(rt; is_outside(alloc, b"crowd,1\nsteps,1\npost,1,10000,0,0", 2));
-    assert!(rt; is_outside(alloc, b"crowd,1\nsteps,1\npost,1,0,16385,0", 3));
-    assert!(rt; is_outside(alloc, b"crowd,1\nsteps,1\npost,1,0,0,-16385", 4));
-    assert!(rt; is_outside(alloc, b"crowd,1\nsteps,1\ngoal,16,0,0,0,0", 1));
-    assert!(rt; is_outside(alloc, b"crowd,1\nsteps,1\ngoal,0,10000,0,0,0", 2));
-    assert!(rt; is_outside(alloc, b"crowd,1\nsteps,1\ngoal,0,0,4194305,0,0", 3));
-    assert!(rt; is_outside(alloc, b"crowd,1\nsteps,1\ngoal,0,0,0,0,16385", 5));
-    assert!(rt; is_refused(alloc, b"crowd,1\nsteps,1\npost,1,0,0", 2, Cause::FieldCount));
-    assert!(rt;
-        is_refused(
-            alloc,
-            b"crowd,1\nsteps,1\ngoal,0,0,0,0",
+    let rows: [Refusal; 12] = [
+        (
+            b"crowd,1\nsteps,1\npost,0,0,0,0",
             2,
-            Cause::FieldCount
-        )
-    );
-    assert!(rt;
-        is_refused(
-            alloc,
+            Cause::OutOfRange { field: 1 },
+        ),
+        (
+            b"crowd,1\nsteps,1\npost,100001,0,0,0",
+            2,
+            Cause::OutOfRange { field: 1 },
+        ),
+        (
+            b"crowd,1\nsteps,1\npost,1,10000,0,0",
+            2,
+            Cause::OutOfRange { field: 2 },
+        ),
+        (
+            b"crowd,1\nsteps,1\npost,1,0,16385,0",
+            2,
+            Cause::OutOfRange { field: 3 },
+        ),
+        (
+            b"crowd,1\nsteps,1\npost,1,0,0,-16385",
+            2,
+            Cause::OutOfRange { field: 4 },
+        ),
+        (
+            b"crowd,1\nsteps,1\ngoal,16,0,0,0,0",
+            2,
+            Cause::OutOfRange { field: 1 },
+        ),
+        (
+            b"crowd,1\nsteps,1\ngoal,0,10000,0,0,0",
+            2,
+            Cause::OutOfRange { field: 2 },
+        ),
+        (
+            b"crowd,1\nsteps,1\ngoal,0,0,4194305,0,0",
+            2,
+            Cause::OutOfRange { field: 3 },
+        ),
+        (
+            b"crowd,1\nsteps,1\ngoal,0,0,0,0,16385",
+            2,
+            Cause::OutOfRange { field: 5 },
+        ),
+        (b"crowd,1\nsteps,1\npost,1,0,0", 2, Cause::FieldCount),
+        (b"crowd,1\nsteps,1\ngoal,0,0,0,0", 2, Cause::FieldCount),
+        (
             b"crowd,1\nsteps,1\ngoal,0,x,0,0,0",
             2,
-            Cause::NotANumber { field: 2 }
-        )
-    );
+            Cause::NotANumber { field: 2 },
+        ),
+    ];
+    assert_eq!(rt; first_not_refused(rt.alloc(), &rows), None);
 }
 
 #[test]
 fn names_the_first_cause_of_a_post(rt: HostRuntime) {
-    let alloc = rt.alloc();
-    assert!(rt; is_refused(alloc, b"crowd,1\npost,1,0,0,0\nsteps,1", 1, Cause::NoSteps));
-    assert!(rt;
-        is_refused(
-            alloc,
+    let rows: [Refusal; 5] = [
+        (b"crowd,1\npost,1,0,0,0\nsteps,1", 1, Cause::NoSteps),
+        (
             b"crowd,1\nsteps,1\npost,2,0,0,0",
             2,
-            Cause::OutOfRange { field: 1 }
-        )
-    );
-    assert!(rt;
-        is_refused(
-            alloc,
-            b"crowd,1\nsteps,1\npost,1,0,0,0",
-            2,
-            Cause::NoSuchAgent
-        )
-    );
-    assert!(rt;
-        is_refused(
-            alloc,
+            Cause::OutOfRange { field: 1 },
+        ),
+        (b"crowd,1\nsteps,1\npost,1,0,0,0", 2, Cause::NoSuchAgent),
+        (
             b"crowd,1\nsteps,5\nagent,0,0,0,0,0,0,500,400,15000,10,10,4\npost,3,0,0,0\npost,2,1,0,0",
             4,
-            Cause::NoSuchAgent
-        )
-    );
-    assert!(rt;
-        is_refused(
-            alloc,
+            Cause::NoSuchAgent,
+        ),
+        (
             b"crowd,1\nsteps,5\nagent,0,0,0,0,0,0,500,400,15000,10,10,4\npost,3,0,0,0\npost,2,0,0,0",
             4,
-            Cause::PostOrder
-        )
-    );
+            Cause::PostOrder,
+        ),
+    ];
+    assert_eq!(rt; first_not_refused(rt.alloc(), &rows), None);
 }
 
 #[test]
 fn names_the_first_cause_of_a_goal(rt: HostRuntime) {
-    let alloc = rt.alloc();
-    assert!(rt;
-        is_refused(
-            alloc,
-            b"crowd,1\ngoal,0,0,0,0,0\nagent",
-            1,
-            Cause::NoSuchAgent
-        )
-    );
-    assert!(rt;
-        is_refused(
-            alloc,
+    let rows: [Refusal; 2] = [
+        (b"crowd,1\ngoal,0,0,0,0,0\nagent", 1, Cause::NoSuchAgent),
+        (
             b"crowd,1\nsteps,1\nagent,0,0,0,0,0,0,500,400,15000,10,10,4\ngoal,0,0,9,9,5\ngoal,1,0,9,9,5",
             4,
-            Cause::GoalTwice
-        )
-    );
+            Cause::GoalTwice,
+        ),
+    ];
+    assert_eq!(rt; first_not_refused(rt.alloc(), &rows), None);
 }
 
 #[test]

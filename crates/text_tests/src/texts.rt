@@ -104,6 +104,19 @@ pub(crate) fn is_refused(alloc: Global, input: &[u8], index: u32, cause: Cause) 
     fault_of(alloc, input) == at(index, cause)
 }
 
+/// A text, the record at which it is refused, and the cause.
+pub(crate) type Refusal<'a> = (&'a [u8], u32, Cause);
+
+/// The first of these texts, if any, that isn't refused so.
+pub(crate) fn first_not_refused(alloc: Global, rows: &[Refusal]) -> Option<usize> {
+    for (place, (text, index, cause)) in rows.iter().enumerate() {
+        if !is_refused(alloc, text, *index, *cause) {
+            return Some(place);
+        }
+    }
+    None
+}
+
 /// Whether a text stands for a scenario.
 pub(crate) fn is_accepted(alloc: Global, input: &[u8]) -> bool {
     read_some(alloc, input).is_ok()

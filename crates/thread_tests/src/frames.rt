@@ -5,7 +5,7 @@ ghost use Rattle.crowd_data.specs.Run.{start_of};
 ghost use Rattle.published_frames.specs.History.{CanFollow, last_of, step_of};
 ghost use Rattle.published_frames.specs.Names.{reader_source, writer_history, writer_source};
 
-use crate::looks::sees;
+use crate::gates::sees;
 use crowd_data::{FIRST_VERSION, Frame, Moves, PLAIN_RING, Post, SCRIPT, Scenario, first_frame};
 use fixed_vec::{List, NoMemory, V2};
 use published_frames::{FrameReader, FrameWriter, Unpublished, open};

@@ -6,9 +6,9 @@ mod claims;
 #[cfg(test)]
 mod frames;
 #[cfg(test)]
-mod live;
+mod gates;
 #[cfg(test)]
-mod looks;
+mod live;
 #[cfg(test)]
 mod posts;
 #[cfg(test)]

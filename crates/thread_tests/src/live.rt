@@ -1,5 +1,5 @@
 // Live runs over sinks in memory.
-use crate::looks::sees;
+use crate::gates::{FIRST_WORKER, sees};
 use crate::texts::scenario_of;
 use crowd_data::Moves;
 use fixed_vec::{List, NoMemory};
@@ -14,9 +14,6 @@ use std::thread::Threads;
 
 // Room for all that these runs write.
 const ROOM: usize = 1_000_000;
-
-// The number of worker 0 at a gate.
-const FIRST_WORKER: u32 = 16;
 
 // As many places as there are.
 const ALL_PLACES: u32 = 16;

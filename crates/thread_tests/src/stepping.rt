@@ -2,9 +2,9 @@
 ghost use Rattle.std.specs.Prelude.{◌≡◌, ◌<◌, ◌≤◌, All, IfOk, length};
 ghost use Rattle.crowd_data.specs.Limits.{IsAgent};
 
-use crate::looks::LOOKS;
+use crate::gates::{FIRST_WORKER, LOOKS};
 use crate::texts::scenario_of;
-use crowd_data::{Agent, Frame, Mark, Scenario};
+use crowd_data::{Agent, Frame, LATEST_VERSION, Mark, PLAIN_RING, Scenario};
 use fixed_vec::{List, NoMemory, V2};
 use frame_step::Stepper;
 use outside_io::Gate;
@@ -135,8 +135,8 @@ fn opened_row(alloc: Global, count: u32, workers: u32) -> Result<Stepper, NoMemo
     requires workers { workers ≤ 64 }
 {
     let scenario = Scenario::of(
-        2,
-        36,
+        LATEST_VERSION,
+        PLAIN_RING,
         2,
         row_of(alloc, count)?,
         List::with_room(alloc, 0)?,
@@ -262,7 +262,7 @@ struct InOrder {
 
 impl Gate for InOrder {
     fn pass(&self, who: u32, turn: u64) {
-        if who == 16 && turn == self.next.load(Ordering::SeqCst) {
+        if who == FIRST_WORKER && turn == self.next.load(Ordering::SeqCst) {
             self.next.fetch_add(1, Ordering::SeqCst);
         }
     }

@@ -141,12 +141,25 @@ impl Gate for LastPass {
     }
 }
 
-// What came of a turn: who was at the gate before it, with which turn, and which turn was at it after that; whether it was
-// done; what the taker answered; and how many posts were left.
+// Who a controller is at a gate, and which turn it comes with.
+fn passed(controller: &Controller) -> (u64, u64) {
+    let gate = LastPass {
+        who: AtomicU64::new(9),
+        turn: AtomicU64::new(9),
+    };
+    controller.pass(&gate);
+    (
+        gate.who.load(Ordering::SeqCst),
+        gate.turn.load(Ordering::SeqCst),
+    )
+}
+
+// What came of a turn: who was at the gate before it and after it, with which turn; whether it was done; what the taker
+// answered; and how many posts were left.
 #[derive(Clone, Copy)]
 struct Turned {
     before: (u64, u64),
-    after: u64,
+    after: (u64, u64),
     is_done: bool,
     taken: Taken,
     left: usize,
@@ -160,18 +173,9 @@ fn turn_once<R: Wait>(rt: &R, alloc: Global, into: &mut List<Post>) -> Result<Tu
     let frame = first_frame(alloc, &scenario)?;
     let mut controller = Controller::of(1, two_goals(alloc)?);
     let (posts, mut posters, mut taker) = post_box::open(alloc, 2, 2, 2)?;
-    let gate = LastPass {
-        who: AtomicU64::new(9),
-        turn: AtomicU64::new(9),
-    };
-    controller.pass(&gate);
-    let before = (
-        gate.who.load(Ordering::SeqCst),
-        gate.turn.load(Ordering::SeqCst),
-    );
+    let before = passed(&controller);
     let done = controller.turn(rt, &frame, &mut posters[1], &posts);
-    controller.pass(&gate);
-    let after = gate.turn.load(Ordering::SeqCst);
+    let after = passed(&controller);
     let taken = taker.take(rt, &posts, into);
     let left = finish(rt, alloc, posts, posters, taker)?.items().len();
     Ok(Turned {
@@ -187,7 +191,8 @@ fn turn_once<R: Wait>(rt: &R, alloc: Global, into: &mut List<Post>) -> Result<Tu
 fn posts_for_each_goal_in_order(rt: HostRuntime) -> Result<(), Fail> {
     let mut into = List::with_room(rt.alloc(), MOST_TAKEN)?;
     let turned = turn_once(&rt, rt.alloc(), &mut into)?;
-    assert_eq!(rt; (turned.before, turned.after), ((1, 0), 1));
+    assert_eq!(rt; turned.before, (1, 0));
+    assert_eq!(rt; turned.after, (1, 1));
     assert!(rt; turned.is_done);
     assert_eq!(rt; turned.taken, Taken::Emptied);
     assert_eq!(rt; into.items(), two_posts().as_slice());
