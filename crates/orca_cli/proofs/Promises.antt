@@ -5,7 +5,7 @@ use Rattle.outside_io.specs.Causes.{Rose}
 use Rattle.command_words.specs.declared.commands.Command.{Command}
 use Rattle.orca_cli.specs.Output.{IsRefused, IsRefusedBy, RunsAreSafe, reads}
 use Rattle.orca_cli.specs.Promise.{ErrorOutput, KeepsPromise}
-use Rattle.orca_cli.specs.Status.{AsksToRead, AsksToWait, Channels, Holds, IsUntouched, IsUnwritten, OnBytes, ReadInput, Reports, WroteOutput, WrotePart, code_of, input_limit}
+use Rattle.orca_cli.specs.Status.{AsksToRead, AsksToWait, Channels, CausesHold, IsUntouched, IsUnwritten, OnBytes, ReadInput, Reports, WroteOutput, WrotePart, code_of, input_limit}
 use Rattle.orca_cli.specs.declared.status.Status.{Status}
 use Rattle.orca_cli.specs.declared.status.Status.TheVariants.{Done, NoMemory, NoMemoryInRun, Usage, Refused, ReadFault, WriteFault, TooLong}
 
@@ -46,7 +46,7 @@ module _ (asked : Option Command) (old new : Channels) where
   none : (c : Command) → Asks c → asked ≡ None → ⊥
   none c asks nothing = cc
 
-  transcript : (s : Status) → Holds asked old new s → code_of s ≡ 0 → (c : Command) → Asks c → OnBytes (reads c) old.left (WroteOutput c old new)
+  transcript : (s : Status) → CausesHold asked old new s → code_of s ≡ 0 → (c : Command) → Asks c → OnBytes (reads c) old.left (WroteOutput c old new)
   transcript Done (d, asks, input) e c also =
       subst (λ x. OnBytes (reads x) old.left (WroteOutput x old new)) (one d c asks also)
       (on_bytes old new (reads d) (λ bytes. WroteOutput d old new bytes × RunsAreSafe d bytes) (WroteOutput d old new) (λ bytes (wrote, safe). wrote) input)
@@ -58,7 +58,7 @@ module _ (asked : Option Command) (old new : Channels) where
   transcript WriteFault h e c also = absurd (omega arith)
   transcript TooLong h e c also = absurd (omega arith)
 
-  cut_short : (s : Status) → Holds asked old new s → code_of s ≡ 5 → (c : Command) → Asks c → OnBytes (reads c) old.left (WrotePart c old new)
+  cut_short : (s : Status) → CausesHold asked old new s → code_of s ≡ 5 → (c : Command) → Asks c → OnBytes (reads c) old.left (WrotePart c old new)
   cut_short WriteFault (d, asks, input, rose) e c also =
       subst (λ x. OnBytes (reads x) old.left (WrotePart x old new)) (one d c asks also)
       (on_bytes old new (reads d) (λ bytes. WrotePart d old new bytes × RunsAreSafe d bytes) (WrotePart d old new) (λ bytes (wrote, safe). wrote) input)
@@ -70,7 +70,7 @@ module _ (asked : Option Command) (old new : Channels) where
   cut_short ReadFault h e c also = absurd (omega arith)
   cut_short TooLong h e c also = absurd (omega arith)
 
-  safe : (s : Status) → Holds asked old new s → (code_of s ≡ 0) ⊎ (code_of s ≡ 5) → (c : Command) → Asks c → OnBytes (reads c) old.left (RunsAreSafe c)
+  safe : (s : Status) → CausesHold asked old new s → (code_of s ≡ 0) ⊎ (code_of s ≡ 5) → (c : Command) → Asks c → OnBytes (reads c) old.left (RunsAreSafe c)
   safe Done (d, asks, input) e c also =
       subst (λ x. OnBytes (reads x) old.left (RunsAreSafe x)) (one d c asks also)
       (on_bytes old new (reads d) (λ bytes. WroteOutput d old new bytes × RunsAreSafe d bytes) (RunsAreSafe d) (λ bytes (wrote, safe). safe) input)
@@ -84,7 +84,7 @@ module _ (asked : Option Command) (old new : Channels) where
   safe ReadFault h e c also = ⊎_elim (λ zero. absurd (omega arith)) (λ five. absurd (omega arith)) e
   safe TooLong h e c also = ⊎_elim (λ zero. absurd (omega arith)) (λ five. absurd (omega arith)) e
 
-  unwritten : (s : Status) → Holds asked old new s → code_of s ≢ 0 → code_of s ≢ 5 → (code_of s ≡ 1 → ¬ AsksToWait asked) → IsUnwritten old new
+  unwritten : (s : Status) → CausesHold asked old new s → code_of s ≢ 0 → code_of s ≢ 5 → (code_of s ≡ 1 → ¬ AsksToWait asked) → IsUnwritten old new
   unwritten Done h not_done not_cut nobody = absurd (not_done refl)
   unwritten WriteFault h not_done not_cut nobody = absurd (not_cut refl)
   unwritten NoMemoryInRun (d, asks, waiting, input) not_done not_cut nobody = absurd (nobody refl (d, asks, waiting))
@@ -98,7 +98,7 @@ module _ (asked : Option Command) (old new : Channels) where
   abbrev CutInRun : Type 0
   CutInRun = (c : Command) × Asks c × OnBytes (reads c) old.left (λ bytes. WrotePart c old new bytes × RunsAreSafe c bytes)
 
-  cut_in_run : (s : Status) → Holds asked old new s → code_of s ≡ 1 → IsUnwritten old new ⊎ CutInRun
+  cut_in_run : (s : Status) → CausesHold asked old new s → code_of s ≡ 1 → IsUnwritten old new ⊎ CutInRun
   cut_in_run NoMemory (most, kept, same) e = inl kept
   cut_in_run NoMemoryInRun (d, asks, waiting, input) e =
       inr (d, asks, on_bytes old new (reads d) (λ bytes. WrotePart d old new bytes × RunsAreSafe d bytes) (λ bytes. WrotePart d old new bytes × RunsAreSafe d bytes) (λ bytes both. both) input)
@@ -109,7 +109,7 @@ module _ (asked : Option Command) (old new : Channels) where
   cut_in_run WriteFault h e = absurd (omega arith)
   cut_in_run TooLong h e = absurd (omega arith)
 
-  usage : (s : Status) → Holds asked old new s → code_of s ≡ 2 → asked ≡ None
+  usage : (s : Status) → CausesHold asked old new s → code_of s ≡ 2 → asked ≡ None
   usage Usage (nothing, same, kept) e = nothing
   usage Done h e = absurd (omega arith)
   usage NoMemory h e = absurd (omega arith)
@@ -119,7 +119,7 @@ module _ (asked : Option Command) (old new : Channels) where
   usage WriteFault h e = absurd (omega arith)
   usage TooLong h e = absurd (omega arith)
 
-  no_command : (s : Status) → Holds asked old new s → asked ≡ None → (code_of s ≡ 1) ⊎ (code_of s ≡ 2)
+  no_command : (s : Status) → CausesHold asked old new s → asked ≡ None → (code_of s ≡ 1) ⊎ (code_of s ≡ 2)
   no_command Usage h nothing = inr refl
   no_command NoMemory h nothing = inl refl
   no_command NoMemoryInRun h nothing = inl refl
@@ -129,7 +129,7 @@ module _ (asked : Option Command) (old new : Channels) where
   no_command TooLong ((d, asks, reading), long, takes, kept) nothing = absurd (none d asks nothing)
   no_command (Refused index cause) ((d, asks, reading), inside, end, kept) nothing = absurd (none d asks nothing)
 
-  untouched : (s : Status) → Holds asked old new s → code_of s ≡ 2 → IsUntouched old new
+  untouched : (s : Status) → CausesHold asked old new s → code_of s ≡ 2 → IsUntouched old new
   untouched Usage (nothing, same, kept) e = same
   untouched Done h e = absurd (omega arith)
   untouched NoMemory h e = absurd (omega arith)
@@ -143,7 +143,7 @@ module _ (asked : Option Command) (old new : Channels) where
   never_both : (c d : Command) → Asks c → Asks d → reads c ≡ true → reads d ≡ false → ⊥
   never_both c d asks also reading not = true≢false (sym reading ∙ subst (λ x. reads x ≡ false) (one d c also asks) not)
 
-  unread : (s : Status) → Holds asked old new s → (c : Command) → Asks c → reads c ≡ false → IsUntouched old new
+  unread : (s : Status) → CausesHold asked old new s → (c : Command) → Asks c → reads c ≡ false → IsUntouched old new
   unread Usage (nothing, same, kept) c asks not = same
   unread NoMemory (most, kept, same) c asks not = same c asks not
   unread NoMemoryInRun (d, asks, waiting, input) c also not = read_none old new (reads d) _ (subst (λ x. reads x ≡ false) (one c d also asks) not) input
@@ -153,7 +153,7 @@ module _ (asked : Option Command) (old new : Channels) where
   unread TooLong ((d, asks, reading), long, takes, kept) c also not = absurd (never_both d c asks also reading not)
   unread (Refused index cause) ((d, asks, reading), inside, end, kept) c also not = absurd (never_both d c asks also reading not)
 
-  read_fault : (s : Status) → Holds asked old new s → code_of s ≡ 4 → Rose old.reads new.reads
+  read_fault : (s : Status) → CausesHold asked old new s → code_of s ≡ 4 → Rose old.reads new.reads
   read_fault ReadFault (asks, rose, most, kept) e = rose
   read_fault Done h e = absurd (omega arith)
   read_fault NoMemory h e = absurd (omega arith)
@@ -163,7 +163,7 @@ module _ (asked : Option Command) (old new : Channels) where
   read_fault WriteFault h e = absurd (omega arith)
   read_fault TooLong h e = absurd (omega arith)
 
-  write_fault : (s : Status) → Holds asked old new s → code_of s ≡ 5 → Rose old.writes new.writes
+  write_fault : (s : Status) → CausesHold asked old new s → code_of s ≡ 5 → Rose old.writes new.writes
   write_fault WriteFault (d, asks, input, rose) e = rose
   write_fault Done h e = absurd (omega arith)
   write_fault NoMemory h e = absurd (omega arith)
@@ -173,7 +173,7 @@ module _ (asked : Option Command) (old new : Channels) where
   write_fault ReadFault h e = absurd (omega arith)
   write_fault TooLong h e = absurd (omega arith)
 
-  too_long : (s : Status) → Holds asked old new s → code_of s ≡ 6 → IfSome old.left (λ bytes. input_limit < length bytes)
+  too_long : (s : Status) → CausesHold asked old new s → code_of s ≡ 6 → IfSome old.left (λ bytes. input_limit < length bytes)
   too_long TooLong (asks, long, takes, kept) e = long
   too_long Done h e = absurd (omega arith)
   too_long NoMemory h e = absurd (omega arith)
@@ -183,7 +183,7 @@ module _ (asked : Option Command) (old new : Channels) where
   too_long ReadFault h e = absurd (omega arith)
   too_long WriteFault h e = absurd (omega arith)
 
-  refused : (s : Status) → Holds asked old new s → code_of s ≡ 3 → IfSome old.left IsRefused
+  refused : (s : Status) → CausesHold asked old new s → code_of s ≡ 3 → IfSome old.left IsRefused
   refused (Refused index cause) (asks, inside, end, kept) e =
       if_more old.left (λ bytes. (length bytes ≤ input_limit) × IsRefusedBy bytes index cause) IsRefused (λ bytes (short, told). (index, cause, told)) inside
   refused Done h e = absurd (omega arith)
@@ -205,7 +205,7 @@ module _ (asked : Option Command) (old new : Channels) where
   short_enough d P code asks reading input =
       if_more old.left (λ bytes. (length bytes ≤ input_limit) × (¬ IsRefused bytes)) (NotLonger code) (λ bytes (short, fine) long. absurd (omega arith)) (all_read d P asks reading input).0
 
-  not_longer : (s : Status) → Holds asked old new s → AsksToRead asked → IfSome old.left (NotLonger (code_of s))
+  not_longer : (s : Status) → CausesHold asked old new s → AsksToRead asked → IfSome old.left (NotLonger (code_of s))
   not_longer Done (d, asks, input) reading = short_enough d (λ bytes. WroteOutput d old new bytes × RunsAreSafe d bytes) 0 asks reading input
   not_longer WriteFault (d, asks, input, rose) reading = short_enough d (λ bytes. WrotePart d old new bytes × RunsAreSafe d bytes) 5 asks reading input
   not_longer Usage (nothing, same, kept) (c, asks, reading) = absurd (none c asks nothing)
@@ -223,7 +223,7 @@ module _ (asked : Option Command) (old new : Channels) where
   without_cause d P code asks reading input =
       if_more old.left (λ bytes. (length bytes ≤ input_limit) × (¬ IsRefused bytes)) (Accepted code) (λ bytes (short, fine) told. absurd (fine told)) (all_read d P asks reading input).0
 
-  accepted : (s : Status) → Holds asked old new s → AsksToRead asked → IfSome old.left (Accepted (code_of s))
+  accepted : (s : Status) → CausesHold asked old new s → AsksToRead asked → IfSome old.left (Accepted (code_of s))
   accepted Done (d, asks, input) reading = without_cause d (λ bytes. WroteOutput d old new bytes × RunsAreSafe d bytes) 0 asks reading input
   accepted WriteFault (d, asks, input, rose) reading = without_cause d (λ bytes. WrotePart d old new bytes × RunsAreSafe d bytes) 5 asks reading input
   accepted Usage (nothing, same, kept) (c, asks, reading) = absurd (none c asks nothing)
@@ -233,7 +233,7 @@ module _ (asked : Option Command) (old new : Channels) where
   accepted TooLong h reading = if_any old.left (Accepted 6) (λ bytes told. inr (inr (inl refl)))
   accepted (Refused index cause) h reading = if_any old.left (Accepted 3) (λ bytes told. inr (inr (inr refl)))
 
-  read_whole : (s : Status) → Holds asked old new s → AsksToRead asked → (code_of s ≡ 0) ⊎ ((code_of s ≡ 3) ⊎ (code_of s ≡ 5)) → IsAtEnd new.left
+  read_whole : (s : Status) → CausesHold asked old new s → AsksToRead asked → (code_of s ≡ 0) ⊎ ((code_of s ≡ 3) ⊎ (code_of s ≡ 5)) → IsAtEnd new.left
   read_whole Done (d, asks, input) reading e = (all_read d (λ bytes. WroteOutput d old new bytes × RunsAreSafe d bytes) asks reading input).1
   read_whole WriteFault (d, asks, input, rose) reading e = (all_read d (λ bytes. WrotePart d old new bytes × RunsAreSafe d bytes) asks reading input).1
   read_whole (Refused index cause) (asks, inside, end, kept) reading e = end
@@ -243,7 +243,7 @@ module _ (asked : Option Command) (old new : Channels) where
   read_whole ReadFault h reading e = ⊎_elim (λ zero. absurd (omega arith)) (λ more. ⊎_elim (λ three. absurd (omega arith)) (λ five. absurd (omega arith)) more) e
   read_whole TooLong h reading e = ⊎_elim (λ zero. absurd (omega arith)) (λ more. ⊎_elim (λ three. absurd (omega arith)) (λ five. absurd (omega arith)) more) e
 
-  complete : (s : Status) → Holds asked old new s → (c : Command) → Asks c → ¬ Rose old.reads new.reads → ¬ Rose old.writes new.writes
+  complete : (s : Status) → CausesHold asked old new s → (c : Command) → Asks c → ¬ Rose old.reads new.reads → ¬ Rose old.writes new.writes
       → (code_of s ≡ 0) ⊎ ((code_of s ≡ 1) ⊎ ((reads c ≡ true) × ((code_of s ≡ 3) ⊎ (code_of s ≡ 6))))
   complete Done h c asks calm quiet = inl refl
   complete NoMemory h c asks calm quiet = inr (inl refl)
@@ -255,7 +255,7 @@ module _ (asked : Option Command) (old new : Channels) where
   complete (Refused index cause) ((d, also, reading), inside, end, kept) c asks calm quiet = inr (inr (subst (λ x. reads x ≡ true) (one d c also asks) reading, inl refl))
 
   -- all of it
-  pub kept : (err later : ErrorOutput) (s : Status) (answer : ℕ) → answer ≡ code_of s → Holds asked old new s → Reports err.held later.held err.faults later.faults s → KeepsPromise asked old new err later answer
+  pub kept : (err later : ErrorOutput) (s : Status) (answer : ℕ) → answer ≡ code_of s → CausesHold asked old new s → Reports err.held later.held err.faults later.faults s → KeepsPromise asked old new err later answer
   kept err later s answer e h reported = subst (KeepsPromise asked old new err later) (sym e) (record {
     status = (s, refl, h, reported);
     transcript = transcript s h;

@@ -10,7 +10,7 @@ use Rattle.run_law.specs.Laws.{EveryRunIsSafe}
 use Rattle.scenario_read.specs.Records.{records_of}
 use Rattle.scenario_read.proofs.OneOutcome.{accepted_or_refused}
 use Rattle.orca_cli.specs.Output.{IsCutTextFor, IsFor, IsRefused, IsScenarioOf, IsTextFor, RunsAreSafe, reads, waits}
-use Rattle.orca_cli.specs.Status.{Channels, Holds, IsUntouched, ReadInput, WroteOutput, WrotePart, input_limit}
+use Rattle.orca_cli.specs.Status.{Channels, CausesHold, IsUntouched, ReadInput, WroteOutput, WrotePart, input_limit}
 use Rattle.orca_cli.specs.Working.{HasScenario, Input, WroteLiveFor, WroteOne}
 use Rattle.orca_cli.specs.declared.status.Status.{Status}
 use Rattle.orca_cli.specs.declared.status.Status.TheVariants.{Done, NoMemory, NoMemoryInRun, Usage, Refused, ReadFault, WriteFault, TooLong}
@@ -89,7 +89,7 @@ module _ (asked : Option Command) (old new : Channels) where
       none_left true e (inside, end, most) = (most, reading_alone e)
       none_left false e (all, same) = (kept_most old.left new.left same.0, λ c also not. same)
 
-      done : (text : List ℕ) → HasScenario (reads command) command before after scenario → IsTextFor command scenario text → Appends old.held new.held text → Holds asked old new Done
+      done : (text : List ℕ) → HasScenario (reads command) command before after scenario → IsTextFor command scenario text → Appends old.held new.held text → CausesHold asked old new Done
       done text had is_text wrote = (
         command,
         asks,
@@ -103,7 +103,7 @@ module _ (asked : Option Command) (old new : Channels) where
           input (λ bytes. WrotePart command old new bytes × RunsAreSafe command bytes) (λ bytes is. ((text, (scenario, is, is_text), wrote), safe_for command bytes scenario is law)) had
 
       pub worked : (s : Status) → waits command ≡ false → HasScenario (reads command) command before after scenario
-          → WroteOne (IsTextFor command scenario) (record { held = old.held; faults = old.writes }) (record { held = new.held; faults = new.writes }) s → Holds asked old new s
+          → WroteOne (IsTextFor command scenario) (record { held = old.held; faults = old.writes }) (record { held = new.held; faults = new.writes }) s → CausesHold asked old new s
       worked Done nobody had (text, is_text, wrote) = done text had is_text wrote
       worked WriteFault nobody had (text, is_text, wrote, rose) = (command, asks, cut text had (text_cut command scenario text nobody is_text) wrote, rose)
       worked NoMemory nobody had kept = let (most, never) = none_left (reads command) refl had in (most, kept, never)
@@ -115,7 +115,7 @@ module _ (asked : Option Command) (old new : Channels) where
 
       -- a run with controllers
       pub worked_live : (s : Status) → waits command ≡ true → HasScenario (reads command) command before after scenario
-          → WroteLiveFor command scenario (record { held = old.held; faults = old.writes }) (record { held = new.held; faults = new.writes }) s → Holds asked old new s
+          → WroteLiveFor command scenario (record { held = old.held; faults = old.writes }) (record { held = new.held; faults = new.writes }) s → CausesHold asked old new s
       worked_live Done waiting had (text, is_text, wrote) = done text had is_text wrote
       worked_live WriteFault waiting had (text, is_text, wrote, rose) = (command, asks, cut text had is_text wrote, rose)
       worked_live NoMemoryInRun waiting had (text, is_text, wrote) = (command, asks, waiting, cut text had is_text wrote)

@@ -5,7 +5,7 @@ use Rattle.std.specs.Io.KnownBytes.{IsAtEnd}
 use Rattle.outside_io.specs.Causes.{Rose}
 use Rattle.command_words.specs.declared.commands.Command.{Command}
 use Rattle.orca_cli.specs.Output.{IsRefused, RunsAreSafe, reads}
-use Rattle.orca_cli.specs.Status.{AsksToRead, AsksToWait, Channels, Holds, IsUntouched, IsUnwritten, OnBytes, Reports, WroteOutput, WrotePart, code_of, input_limit}
+use Rattle.orca_cli.specs.Status.{AsksToRead, AsksToWait, Channels, CausesHold, IsUntouched, IsUnwritten, OnBytes, Reports, WroteOutput, WrotePart, code_of, input_limit}
 use Rattle.orca_cli.specs.declared.status.Status.{Status}
 
 -- what the error output tells before and behind a call: the bytes held, and the faults
@@ -16,7 +16,7 @@ pub record ErrorOutput : Type 0 where
 -- the promise of a call that answered this number, where its words ask for this command or for none
 pub record KeepsPromise (asked : Option Command) (old new : Channels) (err later : ErrorOutput) (answer : ℕ) : Type 0 where
   -- the answer is the code of a status whose causes hold, and the error output has its line
-  pub status : (s : Status) × (answer ≡ code_of s) × Holds asked old new s × Reports err.held later.held err.faults later.faults s
+  pub status : (s : Status) × (answer ≡ code_of s) × CausesHold asked old new s × Reports err.held later.held err.faults later.faults s
   -- the transcript promise: with status 0 exactly the defined output was written, with status 5 a prefix of it
   pub transcript : answer ≡ 0 → (command : Command) → asked ≡ Some command → OnBytes (reads command) old.left (WroteOutput command old new)
   pub cut_short : answer ≡ 5 → (command : Command) → asked ≡ Some command → OnBytes (reads command) old.left (WrotePart command old new)

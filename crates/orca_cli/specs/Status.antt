@@ -67,24 +67,24 @@ abbrev pub AsksToWait : Option Command → Type 0
 AsksToWait asked = (command : Command) × (asked ≡ Some command) × (waits command ≡ true)
 
 -- the causes of each status where this command is asked for or none, and what it leaves
-abbrev pub Holds : Option Command → Channels → Channels → Status → Type 0
-Holds asked old new Usage = (asked ≡ None) × IsUntouched old new × IsUnwritten old new
-Holds asked old new NoMemory =
+abbrev pub CausesHold : Option Command → Channels → Channels → Status → Type 0
+CausesHold asked old new Usage = (asked ≡ None) × IsUntouched old new × IsUnwritten old new
+CausesHold asked old new NoMemory =
     TakesAtMost old.left new.left input_limit × IsUnwritten old new
     × ((command : Command) → asked ≡ Some command → reads command ≡ false → IsUntouched old new)
-Holds asked old new NoMemoryInRun =
+CausesHold asked old new NoMemoryInRun =
     (command : Command) × (asked ≡ Some command) × (waits command ≡ true)
     × ReadInput (reads command) old new (λ bytes. WrotePart command old new bytes × RunsAreSafe command bytes)
-Holds asked old new ReadFault =
+CausesHold asked old new ReadFault =
     AsksToRead asked × Rose old.reads new.reads × TakesAtMost old.left new.left input_limit × IsUnwritten old new
-Holds asked old new TooLong =
+CausesHold asked old new TooLong =
     AsksToRead asked × IfSome old.left (λ bytes. input_limit < length bytes) × Takes old.left new.left (input_limit + 1) × IsUnwritten old new
-Holds asked old new (Refused index cause) =
+CausesHold asked old new (Refused index cause) =
     AsksToRead asked × IfSome old.left (λ bytes. (length bytes ≤ input_limit) × IsRefusedBy bytes index cause) × IsAtEnd new.left × IsUnwritten old new
-Holds asked old new WriteFault =
+CausesHold asked old new WriteFault =
     (command : Command) × (asked ≡ Some command)
     × ReadInput (reads command) old new (λ bytes. WrotePart command old new bytes × RunsAreSafe command bytes) × Rose old.writes new.writes
-Holds asked old new Done =
+CausesHold asked old new Done =
     (command : Command) × (asked ≡ Some command)
     × ReadInput (reads command) old new (λ bytes. WroteOutput command old new bytes × RunsAreSafe command bytes)
 

@@ -3,7 +3,7 @@ ghost use Rattle.std.specs.Prelude.{◌≡◌, ◌≢◌, Some, false, map};
 ghost use Rattle.command_words.specs.Sizes.{IsSized};
 ghost use Rattle.orca_cli.specs.Output.{offline_command_of, waits};
 ghost use Rattle.orca_cli.specs.Promise.{KeepsPromise};
-ghost use Rattle.orca_cli.specs.Status.{Holds, IsUnwritten};
+ghost use Rattle.orca_cli.specs.Status.{CausesHold, IsUnwritten};
 
 use crate::input::scenario_for;
 use crate::output::write_output;
@@ -32,7 +32,7 @@ pub(crate) fn run_command<S: Source, T: Sink, R: Threads + Sync, G: Gate + Sync>
 ) -> Status
     requires sized { IsSized command }
     requires nobody { waits command ≡ false }
-    ensures { Holds (Some command)
+    ensures { CausesHold (Some command)
         (record { left = S.left source.old; reads = S.faults source.old; held = T.held out.old; writes = T.faults out.old })
         (record { left = S.left source.new; reads = S.faults source.new; held = T.held out.new; writes = T.faults out.new }) result }
 {
@@ -54,7 +54,7 @@ fn work<S: Source, T: Sink, R: Threads + Sync, G: Gate + Sync>(
     out: &mut T,
     gate: &G,
 ) -> Status
-    ensures { Holds (offline_command_of (map (λ w. w.now) words.now))
+    ensures { CausesHold (offline_command_of (map (λ w. w.now) words.now))
         (record { left = S.left source.old; reads = S.faults source.old; held = T.held out.old; writes = T.faults out.old })
         (record { left = S.left source.new; reads = S.faults source.new; held = T.held out.new; writes = T.faults out.new }) result }
 {

@@ -4,7 +4,7 @@ ghost use Rattle.command_words.specs.Commands.{command_of};
 ghost use Rattle.command_words.specs.Sizes.{IsWorkers};
 ghost use Rattle.command_words.specs.declared.commands.Command.TheVariants.{Live};
 ghost use Rattle.orca_cli.specs.Promise.{KeepsPromise};
-ghost use Rattle.orca_cli.specs.Status.{Holds};
+ghost use Rattle.orca_cli.specs.Status.{CausesHold};
 ghost use Rattle.orca_cli.specs.Working.{WroteLiveFor};
 
 use crate::commands::run_command;
@@ -48,7 +48,7 @@ fn run_live<S: Source, T: Sink, R: Threads + Wait + Sync, G: Gate + Sync>(
     gate: &G,
 ) -> Status
     requires { IsWorkers workers }
-    ensures { Holds (Some (Live workers))
+    ensures { CausesHold (Some (Live workers))
         (record { left = S.left source.old; reads = S.faults source.old; held = T.held out.old; writes = T.faults out.old })
         (record { left = S.left source.new; reads = S.faults source.new; held = T.held out.new; writes = T.faults out.new }) result }
 {
@@ -70,7 +70,7 @@ fn work<S: Source, T: Sink, R: Threads + Wait + Sync, G: Gate + Sync>(
     out: &mut T,
     gate: &G,
 ) -> Status
-    ensures { Holds (command_of (map (λ w. w.now) words.now))
+    ensures { CausesHold (command_of (map (λ w. w.now) words.now))
         (record { left = S.left source.old; reads = S.faults source.old; held = T.held out.old; writes = T.faults out.old })
         (record { left = S.left source.new; reads = S.faults source.new; held = T.held out.new; writes = T.faults out.new }) result }
 {
